@@ -1,0 +1,210 @@
+-- Sound to Fit: the parts of a sound set fit.
+-- Assumes nothing.
+use Prim.Native.Nat.{ℕ, zero, suc, _+_, _*_, _^_, _<_, _≤_}
+use native.Mathlib.Omega.{arith}
+use mathlib.Core.Path.{_≡_, refl, sym, ap, ap₂, _∙_, subst}
+use mathlib.Core.Bool.{Bool, true, false, not, _&&_, _||_}
+use mathlib.Core.Logic.{_⊎_, inl, inr}
+use mathlib.Core.List.{List, [], _∷_, map}
+use lib.ListN.{length, getD, length-map}
+use lib.Dec.{T, eqb, ltb, leb, ltb→lt, leb→le, eqb→eq}
+use Rattle.laws.specs.Lists.{In, every, some?, keep, flat, pairwise, ascending}
+use Rattle.field.specs.Bytes.{words, longs}
+use Rattle.part_set.specs.Masks.{has, partsIn, count, maskOf}
+use Rattle.paper.specs.Image.{Row, Set, noRow, rowAt}
+use Rattle.paper.specs.Mesh.{Entity, Parts, nameOf, name, bounds, isObject, slotsOf, shapeOf, entOf, partsOf, holds, simplex}
+use Rattle.paper.specs.Sound.{finite, bodyFits, nameOfRow, slotsStand, boundaryStands, rowsAbove, residence, residesWell}
+use Rattle.paper.specs.Placement.{shapeFits}
+use Rattle.laws.proofs.Tests.{split2, both}
+use Rattle.laws.proofs.Members.{decide, getD-in, in-getD, keep-in, in-keep, map-in, every-in, in-every, some-in, in-flat, flat-in, part-lt, eq-eqb}
+use Rattle.demands.proofs.Names.{holds-in, in-holds, flat-map-in, in-flat-map, not-object, object-or}
+use Rattle.part_set.proofs.MaskBits.{has-maskOf}
+use Rattle.laws.proofs.Ascending.{asc-map, asc-getD, only-one}
+use Rattle.part_set.proofs.MaskParts.{has-lt, in-partsIn}
+use Rattle.paper.proofs.Codec.{length-words}
+use Rattle.demands.proofs.Bodies.{length-longs, longs-small}
+use Rattle.demands.proofs.Local.{EntOk, FacesOk, of-faces}
+use Rattle.demands.proofs.Fit.{Fit}
+use Rattle.demands.proofs.SoundFacts.{Copied, Sound}
+use Rattle.demands.proofs.SoundRows.{ent, parts-at, parts-count, part-in, in-part, name-at, names-count, row-fields, row-wide, number-lt, names-ascend, held-has, has-in, agree}
+
+-- ---- rule 9: the slots of a boundary
+
+pub record SlotsOk (rows : List Row) (d : ℕ) (fs : List ℕ) : Type 0 where
+  pub ascends : T (ascending fs)
+  pub there : (t : ℕ) → In t fs → (t < length rows) × (getD rows t noRow .dim ≡ d)
+
+pub slots-of : (rows : List Row) (r : Row) (d : ℕ) → r .dim ≡ suc d → T (slotsStand rows r) → SlotsOk rows d (words (suc (suc d)) (r .body))
+unfolding slotsStand slotsOf ascending
+slots-of rows r d e t =
+    let fs = words (suc (suc d)) (r .body) in
+    let ok : ℕ → ℕ → Bool = λ k f. ltb f (length rows) && eqb (suc (getD rows f noRow .dim)) k in
+    let s = split2 (every (ok (suc d)) fs) (pairwise ltb fs) (subst (λ (k : ℕ). T (every (ok k) (slotsOf k (r .body)) && pairwise ltb (slotsOf k (r .body)))) e t) in
+    record {
+      ascends = s .1;
+      there = λ f i.
+          let w = split2 (ltb f (length rows)) (eqb (suc (getD rows f noRow .dim)) (suc d)) (every-in (ok (suc d)) fs (s .0) f i) in
+          let q = eqb→eq (suc (getD rows f noRow .dim)) (suc d) (w .1) in
+          (ltb→lt f (length rows) (w .0), omega (arith, q));
+    }
+
+-- ---- rule 11: what is above an entity
+
+pub above-in : (S : Set) (k : ℕ) (a : Row) → In a (rowsAbove S k) → (q : ℕ) × (t : ℕ) × (t < length (getD S q [])) × (a ≡ getD (getD S q []) t noRow) × T (bounds k (ent S q t))
+unfolding rowsAbove
+above-in S k a i =
+    let w = flat-map-in (λ rows. keep (λ r. bounds k (entOf rows r)) rows) S a i in
+    let v = in-getD S (w .0) [] (w .1) in
+    let j = keep-in (λ r. bounds k (entOf (getD S (v .0) []) r)) (getD S (v .0) []) a (subst (λ (rows : List Row). In a (keep (λ r. bounds k (entOf rows r)) rows)) (v .2) (w .2)) in
+    let g = in-getD (getD S (v .0) []) a noRow (j .0) in
+    (v .0, g .0, g .1, g .2, subst (λ (r : Row). T (bounds k (entOf (getD S (v .0) []) r))) (g .2) (j .1))
+
+pub in-above : (S : Set) (k q t : ℕ) → t < length (getD S q []) → T (bounds k (ent S q t)) → In (getD (getD S q []) t noRow) (rowsAbove S k)
+unfolding rowsAbove
+in-above S k q t h b =
+    let rows = getD S q [] in
+    let i = getD-in rows t noRow h in
+    in-flat-map (λ rows. keep (λ r. bounds k (entOf rows r)) rows) S rows (getD rows t noRow) (getD-in S q [] (part-lt S q (getD rows t noRow) i))
+    (in-keep (λ r. bounds k (entOf rows r)) rows (getD rows t noRow) i b)
+
+pub res-some : (n m : ℕ) (rs : List Row) (a : Row) → In a rs → T (residence n m rs) → m ≡ maskOf n (λ q. some? (λ a. has (a .mask) q) rs)
+unfolding residence
+res-some n m [] a i t = absurd i
+res-some n m (r ∷ rs) a i t = eqb→eq m (maskOf n (λ q. some? (λ a. has (a .mask) q) (r ∷ rs))) t
+
+res-none : (n m : ℕ) (rs : List Row) → ((a : Row) → In a rs → ⊥) → T (residence n m rs) → count m ≡ 1
+unfolding residence
+res-none n m [] h t = eqb→eq (count m) 1 t
+res-none n m (r ∷ rs) h t = absurd (h r (inl refl))
+
+-- ---- the parts fit
+
+module _ (S : Set) (f : Copied S) where
+  pub row-slots : (p s d : ℕ) → s < length (getD S p []) → getD (getD S p []) s noRow .dim ≡ suc d
+      → SlotsOk (getD S p []) d (words (suc (suc d)) (getD (getD S p []) s noRow .body))
+  unfolding boundaryStands rowAt
+  row-slots p s d h e =
+      let rows = getD S p [] in
+      let r = getD rows s noRow in
+      slots-of rows r d e (split2 (slotsStand rows r) (simplex (map (entOf rows) rows) (r .dim) (r .number) (shapeOf rows (r .dim) (r .body))) (f .boundary p s h) .0)
+
+  row-simplex : (p s : ℕ) → s < length (getD S p []) → T (simplex (getD (partsOf S) p []) (ent S p s .dim) (ent S p s .number) (ent S p s .shape))
+  unfolding boundaryStands rowAt entOf
+  row-simplex p s h =
+      let rows = getD S p [] in
+      let r = getD rows s noRow in
+      subst (λ (es : List Entity). T (simplex es (r .dim) (r .number) (shapeOf rows (r .dim) (r .body)))) (sym (parts-at S p))
+      (split2 (slotsStand rows r) (simplex (map (entOf rows) rows) (r .dim) (r .number) (shapeOf rows (r .dim) (r .body))) (f .boundary p s h) .1)
+
+  -- of two rows of one dimension the later has the greater number
+  numbers-ascend : (p a b d : ℕ) → a < b → a < length (getD S p []) → b < length (getD S p []) → getD (getD S p []) a noRow .dim ≡ d → getD (getD S p []) b noRow .dim ≡ d
+      → getD (getD S p []) a noRow .number < getD (getD S p []) b noRow .number
+  unfolding entOf
+  numbers-ascend p a b d l ha hb da db =
+      omega (arith, asc-getD (map name (getD (partsOf S) p [])) (names-ascend S f p) a b l (subst (λ (n : ℕ). b < n) (sym (names-count S p)) hb), name-at S p a ha, name-at S p b hb)
+
+  -- the entity at a slot, held by its name
+  slot-held : (p t d : ℕ) → t < length (getD S p []) → getD (getD S p []) t noRow .dim ≡ d → T (holds (getD (partsOf S) p []) (nameOf d (getD (getD S p []) t noRow .number)))
+  unfolding entOf
+  slot-held p t d h e =
+      subst (λ (z : ℕ). T (holds (getD (partsOf S) p []) (nameOf z (getD (getD S p []) t noRow .number)))) e (in-holds (getD (partsOf S) p []) (ent S p t) (in-part S p t h))
+
+  shape-fits : (p s : ℕ) → s < length (getD S p []) → (d : ℕ) → getD (getD S p []) s noRow .dim ≡ d
+      → T (shapeFits (getD (partsOf S) p []) d (shapeOf (getD S p []) d (getD (getD S p []) s noRow .body)))
+  unfolding shapeFits shapeOf bodyFits slotsOf entOf
+  shape-fits p s h zero e =
+      let r = getD (getD S p []) s noRow in
+      let xs = longs 3 (r .body) in
+      let fin = subst (λ (d : ℕ). T (bodyFits d (r .body))) e (row-fields S f p s h .body) in
+      both (eqb (length xs) 3) (every (λ x. ltb x (2 ^ 64) && finite x) xs) (eq-eqb (length xs) 3 (length-longs 3 (r .body)))
+      (in-every (λ x. ltb x (2 ^ 64) && finite x) xs (λ x i.
+      both (ltb x (2 ^ 64)) (finite x) (every-in (λ x. ltb x (2 ^ 64)) xs (longs-small 3 (r .body) (row-wide S f p s h .body)) x i) (every-in finite xs fin x i)))
+  shape-fits p s h (suc d) e =
+      let rows = getD S p [] in
+      let r = getD rows s noRow in
+      let fs = words (suc (suc d)) (r .body) in
+      let num : ℕ → ℕ = λ t. getD rows t noRow .number in
+      let o = row-slots p s d h e in
+      let n = length-map fs num in
+      of-faces (getD (partsOf S) p []) d (map num fs) (record {
+        count = omega (arith, n, length-words (suc (suc d)) (r .body));
+        ascends = asc-map num fs (λ a b i j l. numbers-ascend p a b d l (o .there a i .0) (o .there b j .0) (o .there a i .1) (o .there b j .1)) (o .ascends);
+        held = λ j i.
+            let w = map-in num fs j i in
+            let v = o .there (w .0) (w .1) in (
+              subst (λ (z : ℕ). z < 2 ^ 32) (sym (w .2)) (number-lt S f p (w .0) (v .0)),
+              subst (λ (z : ℕ). T (holds (getD (partsOf S) p []) (nameOf d z))) (sym (w .2)) (slot-held p (w .0) d (v .0) (v .1)),
+            );
+      })
+
+  pub ent-ok : (p s : ℕ) → s < length (getD S p []) → EntOk (getD (partsOf S) p []) (ent S p s)
+  unfolding entOf
+  ent-ok p s h =
+      let k = row-fields S f p s h in
+      let w = row-wide S f p s h in
+      record {
+        dim = k .dim;
+        number = w .row .number;
+        kind = k .kind;
+        value = w .row .value;
+        fits = k .value;
+        shape = shape-fits p s h (getD (getD S p []) s noRow .dim) refl;
+        simple = row-simplex p s h;
+      }
+
+  pub small-part : (p : ℕ) (e : Entity) → In e (getD (partsOf S) p []) → p < 64
+  small-part p e i = omega (arith, part-lt (partsOf S) p e i, parts-count S, f .few-parts)
+
+module _ (S : Set) (f : Sound S) where
+  row-residence : (p s : ℕ) → s < length (getD S p []) → T (residence (length S) (getD (getD S p []) s noRow .mask) (rowsAbove S (name (ent S p s))))
+  unfolding residesWell rowAt entOf
+  row-residence p s h = f .residence p s h
+
+  -- what is on a boundary is on that of an entity of some part, with its row
+  once-at : (p q s : ℕ) → s < length (getD S p []) → In (ent S p s) (getD (partsOf S) q []) → T (isObject (flat (partsOf S)) (name (ent S p s))) → p ≡ q
+  unfolding count
+  once-at p q s h j t =
+      let k = name (ent S p s) in
+      let m = getD (getD S p []) s noRow .mask in
+      let one = res-none (length S) m (rowsAbove S k) (λ a i.
+      let w = above-in S k a i in
+      not-object (flat (partsOf S)) k (ent S (w .0) (w .1)) (in-flat (partsOf S) (w .0) (ent S (w .0) (w .1)) (in-part S (w .0) (w .1) (w .2))) (w .4) t) (row-residence p s h) in
+      only-one (partsIn m) one p q (in-partsIn m p (small-part S (f .copied) p (ent S p s) (in-part S p s h)) (row-fields S (f .copied) p s h .own))
+      (in-partsIn m q (small-part S (f .copied) q (ent S p s) j) (held-has S (f .copied) p s q h (in-holds (getD (partsOf S) q []) (ent S p s) j)))
+
+  resides-at : (p s : ℕ) → s < length (getD S p []) → T (isObject (flat (partsOf S)) (name (ent S p s))) ⊎ ((g : Entity) × In g (getD (partsOf S) p []) × T (bounds (name (ent S p s)) g))
+  resides-at p s h = go (object-or (flat (partsOf S)) (name (ent S p s)))
+    where
+      go : T (isObject (flat (partsOf S)) (name (ent S p s))) ⊎ ((g : Entity) × In g (flat (partsOf S)) × T (bounds (name (ent S p s)) g))
+          → T (isObject (flat (partsOf S)) (name (ent S p s))) ⊎ ((g : Entity) × In g (getD (partsOf S) p []) × T (bounds (name (ent S p s)) g))
+      go (inl t) = inl t
+      go (inr g) =
+          let k = name (ent S p s) in
+          let m = getD (getD S p []) s noRow .mask in
+          let v = flat-in (partsOf S) (g .0) (g .1) in
+          let w = part-in S (v .0) (g .0) (v .2) in
+          let i = in-above S k (v .0) (w .0) (w .1) (subst (λ (x : Entity). T (bounds k x)) (w .2) (g .2)) in
+          let union = res-some (length S) m (rowsAbove S k) (getD (getD S (v .0) []) (w .0) noRow) i (row-residence p s h) in
+          let own = row-fields S (f .copied) p s h .own in
+          let l : p < length S = has-lt (length S) m p (row-fields S (f .copied) p s h .mask) own in
+          let t : T (some? (λ a. has (a .mask) p) (rowsAbove S k)) =
+          subst T (ap (λ (z : ℕ). has z p) union ∙ has-maskOf (length S) p (λ q. some? (λ a. has (a .mask) q) (rowsAbove S k)) l) own in
+          let a = some-in (λ a. has (a .mask) p) (rowsAbove S k) t in
+          let b = above-in S k (a .0) (a .1) in
+          inr (ent S (b .0) (b .1), has-in S (f .copied) (b .0) (b .1) p (b .2) (subst (λ (r : Row). T (has (r .mask) p)) (b .3) (a .2)), b .4)
+
+  pub sound-fit : Fit (partsOf S)
+  sound-fit =
+      record {
+        some-part = subst (λ (n : ℕ). 0 < n) (sym (parts-count S)) (f .copied .some-part);
+        few-parts = subst (λ (n : ℕ). n ≤ 64) (sym (parts-count S)) (f .copied .few-parts);
+        ascends = names-ascend S (f .copied);
+        agree = agree S (f .copied);
+        fits = λ p e i. let w = part-in S p e i in subst (EntOk (getD (partsOf S) p [])) (sym (w .2)) (ent-ok S (f .copied) p (w .0) (w .1));
+        once = λ p q e i j t.
+            let w = part-in S p e i in
+            once-at p q (w .0) (w .1) (subst (λ (x : Entity). In x (getD (partsOf S) q [])) (w .2) j) (subst (λ (x : Entity). T (isObject (flat (partsOf S)) (name x))) (w .2) t);
+        resides = λ p e i.
+            let w = part-in S p e i in
+            subst (λ (x : Entity). T (isObject (flat (partsOf S)) (name x)) ⊎ ((g : Entity) × In g (getD (partsOf S) p []) × T (bounds (name x) g))) (sym (w .2)) (resides-at p (w .0) (w .1));
+      }

@@ -1,0 +1,29 @@
+-- T1: an accepted image is the canonical image of its mesh and placement, and these fit.
+-- Assumes nothing.
+use Prim.Native.Nat.{ℕ}
+use mathlib.Core.Path.{_≡_, refl, sym, ap, _∙_, subst}
+use mathlib.Core.List.{List}
+use lib.ListN.{length}
+use lib.Dec.{T}
+use lib.Pow.{areBytes}
+use Rattle.paper.specs.Image.{Set, imageOf}
+use Rattle.paper.specs.Mesh.{Entity, Parts, partsOf, meshOf}
+use Rattle.paper.specs.Placement.{spread, rowsFor, placeIn, WellPlaced}
+use Rattle.demands.proofs.Statements.{T1, Canonical, Accepts, mesh, places}
+use Rattle.demands.proofs.Fit.{Fit}
+use Rattle.demands.proofs.FitMesh.{is-spread, well-placed}
+use Rattle.demands.proofs.SoundFacts.{Sound, sound-inv}
+use Rattle.demands.proofs.SoundRows.{parts-count, names-ascend}
+use Rattle.demands.proofs.SoundFit.{sound-fit}
+use Rattle.demands.proofs.SoundCanon.{sound-canon}
+
+pub theorem-1 : T1
+theorem-1 b S y a =
+    let w = sound-inv b S y a in
+    let f : Fit (partsOf S) = sound-fit S (w .0) in
+    record {
+      bytes = w .1 ∙ ap imageOf (sound-canon S (w .0));
+      ascends = names-ascend S (w .0 .copied);
+      parts = is-spread (partsOf S) f ∙ ap (λ (n : ℕ). spread n (mesh S) (places S)) (parts-count S);
+      fits = subst (λ (n : ℕ). WellPlaced n (mesh S) (places S)) (parts-count S) (well-placed (partsOf S) f);
+    }

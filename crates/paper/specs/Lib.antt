@@ -1,0 +1,10 @@
+pub mod Outcome
+pub mod Image
+pub mod Mesh
+pub mod Sound
+pub mod Placement
+pub mod Move
+pub mod Lookup
+pub mod Box
+pub mod Listing
+pub mod Answers
