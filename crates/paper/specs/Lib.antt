@@ -8,3 +8,4 @@ pub mod Lookup
 pub mod Box
 pub mod Listing
 pub mod Answers
+pub mod Promises

@@ -16,16 +16,16 @@ use Rattle.paper.specs.Mesh.{Entity, Parts, nameOf, name, slotsOf, shapeOf, ent
 use Rattle.paper.specs.Sound.{bodyFits, remoteSlot, ownedWell}
 use Rattle.paper.specs.Placement.{residenceIn, bodyIn, rowFor, rowsFor}
 use Rattle.laws.proofs.Members.{map-of-map, iff-eq, map-same, getD-map, in-getD}
-use Rattle.demands.proofs.Names.{in-holds}
+use Rattle.demands.proofs.Entities.Names.{in-holds}
 use Rattle.part_set.proofs.MaskBits.{has-maskOf, mask-ext}
 use Rattle.laws.proofs.Ascending.{read-places}
 use Rattle.part_set.proofs.MaskParts.{maskOf-lt, has-lt, others-ascends}
 use Rattle.paper.proofs.Remotes.{remotes-others}
-use Rattle.demands.proofs.Bodies.{vertex-body, slots-body}
-use Rattle.demands.proofs.CanonRows.{rows-count, rows-part}
-use Rattle.demands.proofs.SoundFacts.{Sound}
-use Rattle.demands.proofs.SoundRows.{ent, parts-at, parts-count, in-part, row-fields, row-wide, slot-is, Twin, twin, held-has, has-in}
-use Rattle.demands.proofs.SoundFit.{SlotsOk, row-slots}
+use Rattle.demands.proofs.Rows.Bodies.{vertex-body, slots-body}
+use Rattle.demands.proofs.Rows.Made.{rows-count, rows-part}
+use Rattle.demands.proofs.Sound.Facts.{Sound}
+use Rattle.demands.proofs.Sound.Rows.{ent, parts-at, parts-count, in-part, row-fields, row-wide, slot-is, Twin, twin, held-has, has-in}
+use Rattle.demands.proofs.Sound.ToFit.{SlotsOk, row-slots}
 
 module _ (S : Set) (f : Sound S) where
   -- the residence set is that of the parts which hold the entity

@@ -12,14 +12,14 @@ use Rattle.laws.specs.Lists.{In, every, keep, flat, ascending, pairwise, member
 use Rattle.paper.specs.Mesh.{Entity, Parts, nameOf, name, bounds, isObject, holds, sortEnts, meshOf}
 use Rattle.paper.specs.Placement.{Placement, objects, closures, spread, placeIn, placesOf, entFits, meshFits, WellPlaced}
 use Rattle.laws.proofs.Tests.{split2}
-use Rattle.demands.proofs.ByName.{ascending-ext}
+use Rattle.demands.proofs.Entities.Ascending.{ascending-ext}
 use Rattle.laws.proofs.Members.{decide, in-flat, flat-in, every-in, in-map, map-same}
-use Rattle.demands.proofs.Names.{Uniq, holds-in, in-holds, in-bounds, object-same, object-or, not-object}
-use Rattle.demands.proofs.Sorted.{sort-in, in-sort, sort-ascends, ascends-uniq, keep-ascends}
-use Rattle.demands.proofs.Local.{Closed, EntOk, ok-of, fits-closed, ok-down}
-use Rattle.demands.proofs.Closures.{closureOf, closure-down, closure-top, in-closure}
-use Rattle.demands.proofs.SpreadParts.{Under, objects-in, in-objects, spread-length, spread-part, spread-in, in-spread, place-found}
-use Rattle.demands.proofs.Fit.{Fit}
+use Rattle.demands.proofs.Entities.Names.{Uniq, holds-in, in-holds, in-bounds, object-same, object-or, not-object}
+use Rattle.demands.proofs.Entities.Sorted.{sort-in, in-sort, sort-ascends, ascends-uniq, keep-ascends}
+use Rattle.demands.proofs.Entities.Closed.{Closed, EntOk, ok-of, fits-closed, ok-down}
+use Rattle.demands.proofs.Entities.Closures.{closureOf, closure-down, closure-top, in-closure}
+use Rattle.demands.proofs.Mesh.Spread.{Under, objects-in, in-objects, spread-length, spread-part, spread-in, in-spread, place-found}
+use Rattle.demands.proofs.Fit.Record.{Fit}
 
 module _ (n : ℕ) (es : List Entity) (place : Placement) (W : WellPlaced n es place) where
   ascends : T (ascending (map name es))

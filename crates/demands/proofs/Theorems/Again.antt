@@ -16,10 +16,10 @@ use Rattle.paper.specs.Mesh.{Entity, Parts, name, partsOf}
 use Rattle.paper.specs.Placement.{Placement, objects, spread, rowsFor, placesOf, imageFor}
 use Rattle.paper.specs.Move.{destOf, moved, changes, Migrated, migrated, migrateSet, migrateOf}
 use Rattle.laws.proofs.Members.{T-true}
-use Rattle.demands.proofs.Spread.{spread-same}
-use Rattle.demands.proofs.Statements.{Accepts, mesh, places, Canonical}
-use Rattle.demands.proofs.Theorem1.{theorem-1}
-use Rattle.demands.proofs.Demands.{Now, begin, Went, went, moves-at, migrate-is, moved-same}
+use Rattle.demands.proofs.Mesh.Places.{spread-same}
+use Rattle.demands.proofs.Theorems.Statements.{Accepts, mesh, places, Canonical}
+use Rattle.demands.proofs.Theorems.T1.{theorem-1}
+use Rattle.demands.proofs.Theorems.Moves.{Now, begin, Went, went, moves-at, migrate-is, moved-same}
 
 changes-none : (xs : List ℕ) → changes xs xs ≡ 0
 unfolding changes

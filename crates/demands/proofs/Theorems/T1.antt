@@ -9,13 +9,13 @@ use lib.Pow.{areBytes}
 use Rattle.paper.specs.Image.{Set, imageOf}
 use Rattle.paper.specs.Mesh.{Entity, Parts, partsOf, meshOf}
 use Rattle.paper.specs.Placement.{spread, rowsFor, placeIn, WellPlaced}
-use Rattle.demands.proofs.Statements.{T1, Canonical, Accepts, mesh, places}
-use Rattle.demands.proofs.Fit.{Fit}
-use Rattle.demands.proofs.FitMesh.{is-spread, well-placed}
-use Rattle.demands.proofs.SoundFacts.{Sound, sound-inv}
-use Rattle.demands.proofs.SoundRows.{parts-count, names-ascend}
-use Rattle.demands.proofs.SoundFit.{sound-fit}
-use Rattle.demands.proofs.SoundCanon.{sound-canon}
+use Rattle.demands.proofs.Theorems.Statements.{T1, Canonical, Accepts, mesh, places}
+use Rattle.demands.proofs.Fit.Record.{Fit}
+use Rattle.demands.proofs.Fit.ToMesh.{is-spread, well-placed}
+use Rattle.demands.proofs.Sound.Facts.{Sound, sound-inv}
+use Rattle.demands.proofs.Sound.Rows.{parts-count, names-ascend}
+use Rattle.demands.proofs.Sound.ToFit.{sound-fit}
+use Rattle.demands.proofs.Sound.Canonical.{sound-canon}
 
 pub theorem-1 : T1
 theorem-1 b S y a =

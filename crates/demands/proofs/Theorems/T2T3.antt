@@ -11,15 +11,15 @@ use Rattle.paper.specs.Image.{Set, imageOf}
 use Rattle.paper.specs.Mesh.{Entity, Parts}
 use Rattle.paper.specs.Sound.{maxImage}
 use Rattle.paper.specs.Placement.{Placement, spread, rowsFor, imageFor, WellPlaced}
-use Rattle.demands.proofs.Statements.{T2, T3, Holds, Accepts}
-use Rattle.demands.proofs.Few.{rows-few}
-use Rattle.demands.proofs.Fit.{Fit}
-use Rattle.demands.proofs.MeshFit.{spread-fit, spread-mesh, spread-places}
-use Rattle.demands.proofs.SpreadParts.{spread-length}
-use Rattle.demands.proofs.CanonRows.{rows-count}
-use Rattle.demands.proofs.FitRows.{in-rows, parts-back}
-use Rattle.demands.proofs.FitSound.{fit-sound, fit-bytes}
-use Rattle.demands.proofs.SoundFacts.{sound-accepts}
+use Rattle.demands.proofs.Theorems.Statements.{T2, T3, Holds, Accepts}
+use Rattle.demands.proofs.Rows.Few.{rows-few}
+use Rattle.demands.proofs.Fit.Record.{Fit}
+use Rattle.demands.proofs.Mesh.ToFit.{spread-fit, spread-mesh, spread-places}
+use Rattle.demands.proofs.Mesh.Spread.{spread-length}
+use Rattle.demands.proofs.Rows.Made.{rows-count}
+use Rattle.demands.proofs.Fit.Rows.{in-rows, parts-back}
+use Rattle.demands.proofs.Fit.ToSound.{fit-sound, fit-bytes}
+use Rattle.demands.proofs.Sound.Facts.{sound-accepts}
 
 row-few : (S : Set) (p : ℕ) → length (imageOf S) ≤ maxImage → length (getD S p []) < 2 ^ 32
 row-few S p h = omega (arith, rows-few S p)

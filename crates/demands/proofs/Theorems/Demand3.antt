@@ -15,16 +15,16 @@ use Rattle.paper.specs.Mesh.{Entity, Parts, name, bounds, isObject, partsOf, me
 use Rattle.paper.specs.Sound.{remoteSlot}
 use Rattle.paper.specs.Placement.{Placement, objects, placeIn, placesOf}
 use Rattle.demands.specs.History.{Ask, history, lastPlaces}
-use Rattle.demands.proofs.Names.{bounds-in, vertex-bounds, not-object, in-holds, holds-in}
-use Rattle.demands.proofs.Local.{Closed}
-use Rattle.demands.proofs.SpreadParts.{in-objects}
-use Rattle.demands.proofs.Fit.{Fit}
-use Rattle.demands.proofs.FitMesh.{in-mesh, mesh-in, found, in-found, object-found, part-closed, mesh-object}
-use Rattle.demands.proofs.Statements.{Accepts, mesh, places}
-use Rattle.demands.proofs.SoundFacts.{Sound, sound-inv}
-use Rattle.demands.proofs.SoundRows.{ent, Twin, twin}
-use Rattle.demands.proofs.SoundFit.{sound-fit}
-use Rattle.demands.proofs.Demands.{Now, begin, keeps}
+use Rattle.demands.proofs.Entities.Names.{bounds-in, vertex-bounds, not-object, in-holds, holds-in}
+use Rattle.demands.proofs.Entities.Closed.{Closed}
+use Rattle.demands.proofs.Mesh.Spread.{in-objects}
+use Rattle.demands.proofs.Fit.Record.{Fit}
+use Rattle.demands.proofs.Fit.ToMesh.{in-mesh, mesh-in, found, in-found, object-found, part-closed, mesh-object}
+use Rattle.demands.proofs.Theorems.Statements.{Accepts, mesh, places}
+use Rattle.demands.proofs.Sound.Facts.{Sound, sound-inv}
+use Rattle.demands.proofs.Sound.Rows.{ent, Twin, twin}
+use Rattle.demands.proofs.Sound.ToFit.{sound-fit}
+use Rattle.demands.proofs.Theorems.Moves.{Now, begin, keeps}
 
 map-at : {A : Type 0} (f g : A → ℕ) (xs : List A) → map f xs ≡ map g xs → (a : A) → In a xs → f a ≡ g a
 map-at f g [] e a i = absurd i

@@ -18,14 +18,14 @@ use Rattle.paper.specs.Sound.{soundOf, maxImage}
 use Rattle.paper.specs.Placement.{Placement, objects, spread, rowsFor, placeIn, placesOf, imageFor, WellPlaced}
 use Rattle.paper.specs.Move.{entryName, entryPart, wholeEntries, allEntries, destOf, moved, Migrated, migrated, sizeSet, migrateSet, migrateOf}
 use Rattle.demands.specs.History.{Ask, answer, imageAfter, history, placeAfter, lastPlaces}
-use Rattle.demands.proofs.Statements.{Accepts, mesh, places, Canonical, Holds}
-use Rattle.demands.proofs.Theorem1.{theorem-1}
-use Rattle.demands.proofs.Theorem23.{theorem-2, theorem-3}
+use Rattle.demands.proofs.Theorems.Statements.{Accepts, mesh, places, Canonical, Holds}
+use Rattle.demands.proofs.Theorems.T1.{theorem-1}
+use Rattle.demands.proofs.Theorems.T2T3.{theorem-2, theorem-3}
 use Rattle.laws.proofs.Tests.{and-l, and-r, both}
 use Rattle.paper.proofs.Outcomes.{accepted-inj, bind-inv, then-inv, must-inv}
-use Rattle.demands.proofs.Spread.{spread-same}
-use Rattle.demands.proofs.ByName.{ascending-ext}
-use Rattle.demands.proofs.Faults.{bad-lt, entries-inv}
+use Rattle.demands.proofs.Mesh.Places.{spread-same}
+use Rattle.demands.proofs.Entities.Ascending.{ascending-ext}
+use Rattle.demands.proofs.Rows.Entries.{bad-lt, entries-inv}
 
 -- ---- a list of destinations, taken object by object
 

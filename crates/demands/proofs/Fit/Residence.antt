@@ -15,18 +15,18 @@ use Rattle.paper.specs.Mesh.{Entity, Parts, nameOf, name, noEnt, bounds, isObje
 use Rattle.paper.specs.Sound.{nameOfRow, rowsAbove, residence, residesWell}
 use Rattle.paper.specs.Placement.{residenceIn, rowFor, rowsFor}
 use Rattle.laws.proofs.Members.{iff-eq, eq-eqb, getD-in, in-getD, in-flat, some-in, in-some}
-use Rattle.demands.proofs.Names.{in-holds, bounds-in, vertex-bounds, not-object}
+use Rattle.demands.proofs.Entities.Names.{in-holds, bounds-in, vertex-bounds, not-object}
 use Rattle.part_set.proofs.MaskBits.{has-maskOf, mask-ext}
 use Rattle.laws.proofs.Ascending.{one-only}
 use Rattle.part_set.proofs.MaskParts.{maskOf-lt, partsIn-in, in-partsIn, partsIn-ascends}
-use Rattle.demands.proofs.Local.{Closed, fits-closed}
-use Rattle.demands.proofs.Fit.{Fit}
-use Rattle.demands.proofs.CanonRows.{rows-count}
-use Rattle.demands.proofs.SoundRows.{ent}
-use Rattle.demands.proofs.SoundFit.{above-in, in-above}
-use Rattle.demands.proofs.FitRows.{in-rows, row-at, ent-at, residence-lt, has-residence, residence-holds, holds-residence}
-use Rattle.demands.proofs.FitFields.{own-bit}
-use Rattle.demands.proofs.FitCopies.{in-held}
+use Rattle.demands.proofs.Entities.Closed.{Closed, fits-closed}
+use Rattle.demands.proofs.Fit.Record.{Fit}
+use Rattle.demands.proofs.Rows.Made.{rows-count}
+use Rattle.demands.proofs.Sound.Rows.{ent}
+use Rattle.demands.proofs.Sound.ToFit.{above-in, in-above}
+use Rattle.demands.proofs.Fit.Rows.{in-rows, row-at, ent-at, residence-lt, has-residence, residence-holds, holds-residence}
+use Rattle.demands.proofs.Fit.Fields.{own-bit}
+use Rattle.demands.proofs.Fit.Copies.{in-held}
 
 pub some-res : (n m : ℕ) (rs : List Row) (a : Row) → In a rs → m ≡ maskOf n (λ q. some? (λ a. has (a .mask) q) rs) → T (residence n m rs)
 unfolding residence

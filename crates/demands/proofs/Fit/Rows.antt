@@ -18,15 +18,15 @@ use Rattle.paper.specs.Sound.{finite}
 use Rattle.paper.specs.Placement.{residenceIn, bodyIn, rowFor, rowsFor, shapeFits}
 use Rattle.laws.proofs.Tests.{split2, both}
 use Rattle.laws.proofs.Members.{map-of-map, map-self, decide, map-same, getD-map, getD-in, in-getD, every-in, in-every, part-lt}
-use Rattle.demands.proofs.Names.{holds-in, in-holds}
+use Rattle.demands.proofs.Entities.Names.{holds-in, in-holds}
 use Rattle.part_set.proofs.MaskBits.{has-maskOf}
 use Rattle.part_set.proofs.MaskParts.{maskOf-lt, has-lt}
-use Rattle.demands.proofs.Bodies.{longs-back}
-use Rattle.demands.proofs.Canon.{standing, slots-written, shape-back}
-use Rattle.demands.proofs.Local.{EntOk, FacesOk, faces-of}
-use Rattle.demands.proofs.CanonRows.{rows-count, rows-part}
-use Rattle.demands.proofs.SoundRows.{ent, parts-at, parts-count}
-use Rattle.demands.proofs.Fit.{Fit}
+use Rattle.demands.proofs.Rows.Bodies.{longs-back}
+use Rattle.demands.proofs.Rows.ReadBack.{standing, slots-written, shape-back}
+use Rattle.demands.proofs.Entities.Closed.{EntOk, FacesOk, faces-of}
+use Rattle.demands.proofs.Rows.Made.{rows-count, rows-part}
+use Rattle.demands.proofs.Sound.Rows.{ent, parts-at, parts-count}
+use Rattle.demands.proofs.Fit.Record.{Fit}
 
 -- the rows of part p
 abbrev pub rowsIn : Parts → ℕ → List Row

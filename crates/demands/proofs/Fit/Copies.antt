@@ -16,15 +16,15 @@ use Rattle.paper.specs.Sound.{nameOfRow, remoteSlot, twinAgrees, copiesAgree}
 use Rattle.paper.specs.Placement.{residenceIn, rowFor, rowsFor}
 use Rattle.laws.proofs.Tests.{both, join4, join5}
 use Rattle.laws.proofs.Members.{map-of-map, or-l, or-r, decide, in-every, map-in, getD-map, getD-in, eq-eqb, upTo-in}
-use Rattle.demands.proofs.Names.{holds-in, in-holds}
+use Rattle.demands.proofs.Entities.Names.{holds-in, in-holds}
 use Rattle.laws.proofs.Ascending.{read-at, index-getD}
 use Rattle.part_set.proofs.MaskParts.{others-in, in-others, others-ascends}
 use Rattle.paper.proofs.Codec.{same-refl}
-use Rattle.demands.proofs.Canon.{slot-lt, slot-name}
-use Rattle.demands.proofs.Fit.{Fit}
-use Rattle.demands.proofs.CanonRows.{rows-count, rows-part}
-use Rattle.demands.proofs.FitRows.{rowsIn, in-rows, row-at, ent-back, has-residence, residence-holds, holds-residence}
-use Rattle.demands.proofs.FitFields.{part-small}
+use Rattle.demands.proofs.Rows.ReadBack.{slot-lt, slot-name}
+use Rattle.demands.proofs.Fit.Record.{Fit}
+use Rattle.demands.proofs.Rows.Made.{rows-count, rows-part}
+use Rattle.demands.proofs.Fit.Rows.{rowsIn, in-rows, row-at, ent-back, has-residence, residence-holds, holds-residence}
+use Rattle.demands.proofs.Fit.Fields.{part-small}
 
 same-self : (e : Entity) → T (sameEnt e e)
 unfolding sameEnt

@@ -23,12 +23,12 @@ use Rattle.laws.proofs.Members.{in-every, map-in, part-lt, eq-eqb, getD-in, in-
 use Rattle.field.proofs.Numbers.{length-bytes}
 use Rattle.paper.proofs.RowBack.{RowFits}
 use Rattle.paper.proofs.Codec.{Wide}
-use Rattle.demands.proofs.Bodies.{length-eights, zeros-are}
+use Rattle.demands.proofs.Rows.Bodies.{length-eights, zeros-are}
 use Rattle.part_set.proofs.MaskParts.{partsIn-in, in-partsIn}
 use Rattle.paper.proofs.Remotes.{remotes-others}
-use Rattle.demands.proofs.Local.{EntOk, FacesOk}
-use Rattle.demands.proofs.Fit.{Fit}
-use Rattle.demands.proofs.FitRows.{Coords, coords-at, coords-back, faces-at, residence-lt, residence-holds, holds-residence}
+use Rattle.demands.proofs.Entities.Closed.{EntOk, FacesOk}
+use Rattle.demands.proofs.Fit.Record.{Fit}
+use Rattle.demands.proofs.Fit.Rows.{Coords, coords-at, coords-back, faces-at, residence-lt, residence-holds, holds-residence}
 
 -- ---- bytes
 

@@ -13,8 +13,8 @@ use Rattle.laws.specs.Lists.{In, keep, flat, upTo, member}
 use Rattle.paper.specs.Mesh.{Entity, Parts, name, isObject, holds, closure}
 use Rattle.paper.specs.Placement.{Placement, objects, closures, spread, placeIn}
 use Rattle.laws.proofs.Members.{keep-in, in-keep, member-in, in-member, getD-map, length-upTo, getD-upTo, part-lt, eq-eqb}
-use Rattle.demands.proofs.Names.{flat-map-in, in-flat-map}
-use Rattle.demands.proofs.Closures.{closureOf}
+use Rattle.demands.proofs.Entities.Names.{flat-map-in, in-flat-map}
+use Rattle.demands.proofs.Entities.Closures.{closureOf}
 
 -- k is in the closure of an object that is placed in p
 pub record Under (es : List Entity) (place : Placement) (p k : ℕ) : Type 0 where

@@ -17,7 +17,7 @@ use Rattle.paper.specs.Sound.{maxImage, fieldsFit, ordered, boundaryStands, cop
 use Rattle.laws.proofs.Tests.{split3, join3}
 use Rattle.paper.proofs.Outcomes.{then-inv, bind-inv, must-inv, accepted-inj}
 use Rattle.paper.proofs.RowBack.{RowFits}
-use Rattle.demands.proofs.RowFaults.{rows-inv, rows-ok, must-ok, get-inv, then-ok, bind-ok}
+use Rattle.demands.proofs.Rows.Faults.{rows-inv, rows-ok, must-ok, get-inv, then-ok, bind-ok}
 use Rattle.paper.proofs.Codec.{Wide, Walk, parts-walk, parts-back, same-eq, head-is}
 
 -- a test of each row of a set

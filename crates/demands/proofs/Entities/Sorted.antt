@@ -10,9 +10,9 @@ use lib.Dec.{T, ltb, eqb, ltb→lt, lt→ltb, nltb→le, eqb→eq, T-not, eqb-re
 use Rattle.laws.specs.Lists.{In, every, keep, pairwise, ascending}
 use Rattle.paper.specs.Mesh.{Entity, name, insertEnt, sortEnts}
 use Rattle.laws.proofs.Tests.{and-l, and-r, both}
-use Rattle.demands.proofs.ByName.{head-below, tail-ascends}
+use Rattle.demands.proofs.Entities.Ascending.{head-below, tail-ascends}
 use Rattle.laws.proofs.Members.{in-every, map-in, keep-in}
-use Rattle.demands.proofs.Names.{Uniq}
+use Rattle.demands.proofs.Entities.Names.{Uniq}
 
 -- a list ascends where its head is below all others, and these ascend
 pub cons-ascends : (x : Entity) (xs : List Entity) → ((e : Entity) → In e xs → name x < name e) → T (ascending (map name xs)) → T (ascending (map name (x ∷ xs)))

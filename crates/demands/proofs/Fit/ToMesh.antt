@@ -13,14 +13,14 @@ use Rattle.laws.specs.Lists.{In, every, keep, flat, ascending, member}
 use Rattle.paper.specs.Mesh.{Entity, Parts, name, bounds, isObject, holds, sortEnts, meshOf}
 use Rattle.paper.specs.Placement.{Placement, objects, closures, spread, placeIn, placesOf, entFits, meshFits, WellPlaced}
 use Rattle.laws.proofs.Tests.{both}
-use Rattle.demands.proofs.ByName.{ascending-ext}
+use Rattle.demands.proofs.Entities.Ascending.{ascending-ext}
 use Rattle.laws.proofs.Members.{in-flat, flat-in, in-every, map-in}
-use Rattle.demands.proofs.Names.{Uniq, holds-in, in-holds, object-same}
-use Rattle.demands.proofs.Sorted.{sort-in, in-sort, sort-ascends, ascends-uniq, keep-ascends}
-use Rattle.demands.proofs.Local.{Closed, EntOk, fits-of, fits-closed, ok-up}
-use Rattle.demands.proofs.Closures.{closureOf, closure-part, in-closure}
-use Rattle.demands.proofs.SpreadParts.{Under, objects-in, spread-length, spread-part, spread-in, in-spread, place-found}
-use Rattle.demands.proofs.Fit.{Fit}
+use Rattle.demands.proofs.Entities.Names.{Uniq, holds-in, in-holds, object-same}
+use Rattle.demands.proofs.Entities.Sorted.{sort-in, in-sort, sort-ascends, ascends-uniq, keep-ascends}
+use Rattle.demands.proofs.Entities.Closed.{Closed, EntOk, fits-of, fits-closed, ok-up}
+use Rattle.demands.proofs.Entities.Closures.{closureOf, closure-part, in-closure}
+use Rattle.demands.proofs.Mesh.Spread.{Under, objects-in, spread-length, spread-part, spread-in, in-spread, place-found}
+use Rattle.demands.proofs.Fit.Record.{Fit}
 
 module _ (ps : Parts) (F : Fit ps) where
   flat-uniq : Uniq (flat ps)

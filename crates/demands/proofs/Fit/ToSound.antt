@@ -18,14 +18,14 @@ use Rattle.paper.specs.Placement.{rowFor, rowsFor}
 use Rattle.laws.proofs.Tests.{both}
 use Rattle.laws.proofs.Members.{eq-eqb, getD-in, in-getD, map-in}
 use Rattle.paper.proofs.Codec.{Wide}
-use Rattle.demands.proofs.Fit.{Fit}
-use Rattle.demands.proofs.CanonRows.{rows-count, rows-part}
-use Rattle.demands.proofs.FitRows.{rowsIn, in-rows, row-at, parts-back}
-use Rattle.demands.proofs.FitFields.{bytes-of, bytes-append, bytes-flat, row-wide, row-fields, row-bytes}
-use Rattle.demands.proofs.FitOrder.{row-ordered, row-boundary}
-use Rattle.demands.proofs.FitCopies.{row-copies}
-use Rattle.demands.proofs.FitResidence.{row-resides}
-use Rattle.demands.proofs.SoundFacts.{Copied, Sound}
+use Rattle.demands.proofs.Fit.Record.{Fit}
+use Rattle.demands.proofs.Rows.Made.{rows-count, rows-part}
+use Rattle.demands.proofs.Fit.Rows.{rowsIn, in-rows, row-at, parts-back}
+use Rattle.demands.proofs.Fit.Fields.{bytes-of, bytes-append, bytes-flat, row-wide, row-fields, row-bytes}
+use Rattle.demands.proofs.Fit.Order.{row-ordered, row-boundary}
+use Rattle.demands.proofs.Fit.Copies.{row-copies}
+use Rattle.demands.proofs.Fit.Residence.{row-resides}
+use Rattle.demands.proofs.Sound.Facts.{Copied, Sound}
 
 module _ (ps : Parts) (F : Fit ps) (few : (p : ℕ) → length (getD ps p []) < 2 ^ 32) where
   slot : (p s : ℕ) → s < length (getD (rowsFor ps) p []) → s < length (getD ps p [])

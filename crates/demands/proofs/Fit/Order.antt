@@ -16,12 +16,12 @@ use Rattle.paper.specs.Sound.{nameOfRow, ordered, slotsStand, boundaryStands}
 use Rattle.paper.specs.Placement.{bodyIn, rowFor, rowsFor}
 use Rattle.laws.proofs.Tests.{both}
 use Rattle.laws.proofs.Members.{in-every, map-in, getD-map, eq-eqb}
-use Rattle.demands.proofs.Names.{name-dim}
+use Rattle.demands.proofs.Entities.Names.{name-dim}
 use Rattle.laws.proofs.Ascending.{asc-getD, asc-places, asc-map}
-use Rattle.demands.proofs.Canon.{slot-lt, slot-name, slots-written}
-use Rattle.demands.proofs.Local.{EntOk, FacesOk}
-use Rattle.demands.proofs.Fit.{Fit}
-use Rattle.demands.proofs.FitRows.{rowsIn, numbers, faces-at, all-standing, ent-back, part-back}
+use Rattle.demands.proofs.Rows.ReadBack.{slot-lt, slot-name, slots-written}
+use Rattle.demands.proofs.Entities.Closed.{EntOk, FacesOk}
+use Rattle.demands.proofs.Fit.Record.{Fit}
+use Rattle.demands.proofs.Fit.Rows.{rowsIn, numbers, faces-at, all-standing, ent-back, part-back}
 
 module _ (ps : Parts) (F : Fit ps) (few : (p : ℕ) → length (getD ps p []) < 2 ^ 32) where
   row-name : (p s : ℕ) → s < length (getD ps p []) → nameOfRow (getD (rowsIn ps p) s noRow) ≡ getD (map name (getD ps p [])) s 0

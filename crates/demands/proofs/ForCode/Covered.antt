@@ -14,16 +14,16 @@ use Rattle.paper.specs.Image.{Row, Set, noRow, rowAt}
 use Rattle.paper.specs.Mesh.{Entity, Parts, name, bounds, isObject, holds, entOf, partsOf, objectsIn}
 use Rattle.paper.specs.Sound.{nameOfRow, rowsAbove, residence, residesWell}
 use Rattle.laws.proofs.Members.{or-either, or-l, or-r, iff-eq, eq-eqb, getD-in, in-getD, every-in, in-every, some-in, in-some, in-flat}
-use Rattle.demands.proofs.Names.{bounds-in, vertex-bounds, not-object}
+use Rattle.demands.proofs.Entities.Names.{bounds-in, vertex-bounds, not-object}
 use Rattle.part_set.proofs.MaskBits.{has-maskOf, mask-ext}
 use Rattle.laws.proofs.Ascending.{only-one}
 use Rattle.part_set.proofs.MaskParts.{has-lt, maskOf-lt, partsIn-in, in-partsIn}
-use Rattle.demands.proofs.Local.{Closed, EntOk, fits-closed}
-use Rattle.demands.proofs.Fit.{Fit}
-use Rattle.demands.proofs.SoundFacts.{Copied}
-use Rattle.demands.proofs.SoundRows.{ent, part-in, in-part, row-fields, held-has, has-in}
-use Rattle.demands.proofs.SoundFit.{above-in, in-above, res-some, ent-ok, small-part}
-use Rattle.demands.proofs.FitResidence.{some-res}
+use Rattle.demands.proofs.Entities.Closed.{Closed, EntOk, fits-closed}
+use Rattle.demands.proofs.Fit.Record.{Fit}
+use Rattle.demands.proofs.Sound.Facts.{Copied}
+use Rattle.demands.proofs.Sound.Rows.{ent, part-in, in-part, row-fields, held-has, has-in}
+use Rattle.demands.proofs.Sound.ToFit.{above-in, in-above, res-some, ent-ok, small-part}
+use Rattle.demands.proofs.Fit.Residence.{some-res}
 
 -- some row of part q has k on its boundary
 unfoldable pub covered : Set → ℕ → ℕ → Bool

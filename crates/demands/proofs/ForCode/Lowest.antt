@@ -18,7 +18,7 @@ use Rattle.laws.proofs.Tests.{split4, split5}
 use Rattle.laws.proofs.Members.{decide, or-l, or-r, eq-eqb, every-in, in-every, member-in, map-in, in-getD, getD-map}
 use Rattle.laws.proofs.Ascending.{asc-head, index-getD}
 use Rattle.part_set.proofs.MaskParts.{partsIn-in, in-partsIn, partsIn-ascends, in-others}
-use Rattle.demands.proofs.SoundFacts.{Each}
+use Rattle.demands.proofs.Sound.Facts.{Each}
 
 -- the least part of a set that is not empty
 least : (xs : List ℕ) → T (ascending xs) → (p : ℕ) → In p xs → (q : ℕ) × In q xs × ((x : ℕ) → In x xs → q ≤ x)

@@ -15,7 +15,7 @@ use Rattle.paper.specs.Mesh.{Entity, nameOf, name, holds, entNamed, shapeIn, ve
 use Rattle.paper.specs.Placement.{shapeFits, entFits}
 use Rattle.laws.proofs.Tests.{both, split2, split3, split7, join3, join7}
 use Rattle.laws.proofs.Members.{eq-eqb, map-same, every-in, in-every}
-use Rattle.demands.proofs.Names.{Uniq, holds-in, in-holds, named-is, name-dim, name-number}
+use Rattle.demands.proofs.Entities.Names.{Uniq, holds-in, in-holds, named-is, name-dim, name-number}
 
 -- ---- tests that agree on the members
 

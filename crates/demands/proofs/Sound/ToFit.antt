@@ -17,16 +17,16 @@ use Rattle.paper.specs.Sound.{finite, bodyFits, nameOfRow, slotsStand, boundary
 use Rattle.paper.specs.Placement.{shapeFits}
 use Rattle.laws.proofs.Tests.{split2, both}
 use Rattle.laws.proofs.Members.{decide, getD-in, in-getD, keep-in, in-keep, map-in, every-in, in-every, some-in, in-flat, flat-in, part-lt, eq-eqb}
-use Rattle.demands.proofs.Names.{holds-in, in-holds, flat-map-in, in-flat-map, not-object, object-or}
+use Rattle.demands.proofs.Entities.Names.{holds-in, in-holds, flat-map-in, in-flat-map, not-object, object-or}
 use Rattle.part_set.proofs.MaskBits.{has-maskOf}
 use Rattle.laws.proofs.Ascending.{asc-map, asc-getD, only-one}
 use Rattle.part_set.proofs.MaskParts.{has-lt, in-partsIn}
 use Rattle.paper.proofs.Codec.{length-words}
-use Rattle.demands.proofs.Bodies.{length-longs, longs-small}
-use Rattle.demands.proofs.Local.{EntOk, FacesOk, of-faces}
-use Rattle.demands.proofs.Fit.{Fit}
-use Rattle.demands.proofs.SoundFacts.{Copied, Sound}
-use Rattle.demands.proofs.SoundRows.{ent, parts-at, parts-count, part-in, in-part, name-at, names-count, row-fields, row-wide, number-lt, names-ascend, held-has, has-in, agree}
+use Rattle.demands.proofs.Rows.Bodies.{length-longs, longs-small}
+use Rattle.demands.proofs.Entities.Closed.{EntOk, FacesOk, of-faces}
+use Rattle.demands.proofs.Fit.Record.{Fit}
+use Rattle.demands.proofs.Sound.Facts.{Copied, Sound}
+use Rattle.demands.proofs.Sound.Rows.{ent, parts-at, parts-count, part-in, in-part, name-at, names-count, row-fields, row-wide, number-lt, names-ascend, held-has, has-in, agree}
 
 -- ---- rule 9: the slots of a boundary
 

@@ -15,12 +15,12 @@ use Rattle.paper.specs.Mesh.{Entity, Parts, nameOf, name, sameEnt, shapeOf, ent
 use Rattle.paper.specs.Sound.{valueFits, bodyFits, fieldsFit, nameOfRow, ordered, remoteSlot, twinAgrees, copiesAgree}
 use Rattle.laws.proofs.Tests.{split2, split4, split5, split8}
 use Rattle.laws.proofs.Members.{map-of-map, or-either, decide, getD-in, in-getD, in-map, map-in, getD-map, every-in, in-member, in-upTo, part-lt}
-use Rattle.demands.proofs.Names.{in-holds, holds-in, name-dim, name-number}
-use Rattle.demands.proofs.Sorted.{ascends-uniq}
+use Rattle.demands.proofs.Entities.Names.{in-holds, holds-in, name-dim, name-number}
+use Rattle.demands.proofs.Entities.Sorted.{ascends-uniq}
 use Rattle.paper.proofs.Codec.{Wide, same-eq}
 use Rattle.laws.proofs.Ascending.{asc-adjacent, index-getD}
 use Rattle.part_set.proofs.MaskParts.{has-lt, others-in, in-others}
-use Rattle.demands.proofs.SoundFacts.{Copied}
+use Rattle.demands.proofs.Sound.Facts.{Copied}
 
 -- the entity of a row
 abbrev pub ent : Set → ℕ → ℕ → Entity

@@ -14,7 +14,7 @@ use Rattle.paper.specs.Outcome.{Outcome, Place, accepted, unless, must, get, _>
 use Rattle.paper.specs.Image.{Row, Set}
 use Rattle.paper.specs.Sound.{firstFault, rowsMust}
 use Rattle.paper.proofs.Outcomes.{not-refused, accepted-inj}
-use Rattle.demands.proofs.Faults.{none-bad}
+use Rattle.demands.proofs.Rows.Entries.{none-bad}
 
 all-from : (ok : ℕ → Bool) (n a : ℕ) → ((k : ℕ) → k < n → T (ok (a + k))) → firstBad ok (from a n) ≡ none
 unfolding firstBad from

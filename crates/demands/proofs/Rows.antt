@@ -1,0 +1,7 @@
+-- Rows and their bytes: bodies, rows made of parts, tests of each row and of each entry.
+pub mod Bodies
+pub mod ReadBack
+pub mod Made
+pub mod Few
+pub mod Faults
+pub mod Entries

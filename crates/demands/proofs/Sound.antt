@@ -1,0 +1,5 @@
+-- Sound sets: what the rules 7 to 12 say, and that the parts of a sound set fit and make its rows.
+pub mod Facts
+pub mod Rows
+pub mod ToFit
+pub mod Canonical
