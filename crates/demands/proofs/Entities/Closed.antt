@@ -1,5 +1,6 @@
 -- What is judged of an entity in a list that is closed under boundaries is judged the same in a larger list.
 -- Assumes nothing.
+use Rattle.field.specs.Bytes.{finite}
 use Prim.Native.Nat.{ℕ, zero, suc, _+_, _*_, _^_, _<_, _≤_}
 use native.Mathlib.Omega.{arith}
 use native.Mathlib.Nat.{not-suc-le-zero, le-of-suc-le-suc}
@@ -10,7 +11,7 @@ use mathlib.Core.List.{List, [], _∷_, map}
 use lib.ListN.{length}
 use lib.Dec.{T, eqb, eqb→eq, ltb, leb, leb→le, ltb→lt, le→leb, lt→ltb}
 use Rattle.laws.specs.Lists.{In, every, some?, keep, pairwise, ascending, member, same, unions}
-use Rattle.paper.specs.Sound.{finite, valueFits}
+use Rattle.paper.specs.Sound.{valueFits}
 use Rattle.paper.specs.Mesh.{Entity, nameOf, name, holds, entNamed, shapeIn, vertices, facesOf, shareEdges, simplex}
 use Rattle.paper.specs.Placement.{shapeFits, entFits}
 use Rattle.laws.proofs.Tests.{both, split2, split3, split7, join3, join7}

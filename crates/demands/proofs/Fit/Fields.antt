@@ -12,11 +12,11 @@ use lib.Seq.{drop-at}
 use lib.Pow.{areBytes, pow-mono}
 use lib.Dec.{T, eqb, ltb, leb, ltb→lt, lt→ltb, le→leb, lit<}
 use Rattle.laws.specs.Lists.{In, flat, every, indexOf}
-use Rattle.field.specs.Bytes.{longs, bytesOf}
+use Rattle.field.specs.Bytes.{longs, bytesOf, finite}
 use Rattle.part_set.specs.Masks.{has, partsIn, others}
 use Rattle.paper.specs.Image.{Row, Set, noRow, remotes, rowBytes, partBytes, imageOf}
 use Rattle.paper.specs.Mesh.{Entity, Parts, nameOf, name, noEnt, slotIn, objectsIn, poorest, ownerOf}
-use Rattle.paper.specs.Sound.{finite, valueFits, bodyFits, fieldsFit}
+use Rattle.paper.specs.Sound.{valueFits, bodyFits, fieldsFit}
 use Rattle.paper.specs.Placement.{residenceIn, bodyIn, rowFor, rowsFor}
 use Rattle.laws.proofs.Tests.{both, and-l, and-r, join8}
 use Rattle.laws.proofs.Members.{in-every, map-in, part-lt, eq-eqb, getD-in, in-getD}

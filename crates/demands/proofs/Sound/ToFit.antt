@@ -9,11 +9,11 @@ use mathlib.Core.List.{List, [], _∷_, map}
 use lib.ListN.{length, getD, length-map}
 use lib.Dec.{T, eqb, ltb, leb, ltb→lt, leb→le, eqb→eq}
 use Rattle.laws.specs.Lists.{In, every, some?, keep, flat, pairwise, ascending}
-use Rattle.field.specs.Bytes.{words, longs}
+use Rattle.field.specs.Bytes.{words, longs, finite}
 use Rattle.part_set.specs.Masks.{has, partsIn, count, maskOf}
 use Rattle.paper.specs.Image.{Row, Set, noRow, rowAt}
 use Rattle.paper.specs.Mesh.{Entity, Parts, nameOf, name, bounds, isObject, slotsOf, shapeOf, entOf, partsOf, holds, simplex}
-use Rattle.paper.specs.Sound.{finite, bodyFits, nameOfRow, slotsStand, boundaryStands, rowsAbove, residence, residesWell}
+use Rattle.paper.specs.Sound.{bodyFits, nameOfRow, slotsStand, boundaryStands, rowsAbove, residence, residesWell}
 use Rattle.paper.specs.Placement.{shapeFits}
 use Rattle.laws.proofs.Tests.{split2, both}
 use Rattle.laws.proofs.Members.{decide, getD-in, in-getD, keep-in, in-keep, map-in, every-in, in-every, some-in, in-flat, flat-in, part-lt, eq-eqb}
