@@ -1,11 +1,8 @@
 // Little-endian fields of a slice of bytes: read and written, and the bits of a finite f64.
 ghost use Prim.Native.Nat.{ℕ, _+_, _≤_, _<_};
 ghost use mathlib.Core.Path.{_≡_};
-ghost use mathlib.Core.Bool.{true};
 ghost use lib.ListN.{length};
-ghost use lib.Seq.{sets};
-ghost use lib.Ieee.{binary64, ofBits};
-ghost use Rattle.field.specs.Bytes.{u8At, u16At, u32At, u64At, bytesOf, finite};
+ghost use Rattle.field.specs.Bytes.{u8At, u16At, u32At, u64At, finite};
 
 pub fn wide(x: u8) -> u32
     ensures { λ r. ⌜ (r ≡ x) × (r < 256) ⌝ }
@@ -52,31 +49,4 @@ pub fn is_finite(bits: u64) -> bool
     ensures { λ r. ⌜ r ≡ finite bits ⌝ }
 {
     bits / 4503599627370496 % 2048 != 2047
-}
-
-pub fn real(bits: u64) -> f64
-    requires { ⌜ finite bits ≡ true ⌝ }
-    ensures { λ r. ⌜ r ≡ ofBits binary64 bits ⌝ }
-{
-    f64::from_bits(bits)
-}
-
-// The four bytes of v, the lowest first.
-pub fn put_word(out: &mut [u8], at: usize, v: u32)
-    requires { ⌜ at + 4 ≤ length (now out) ⌝ }
-    ensures { λ _. ⌜ now (out .exit) ≡ sets (now (out .entry)) at (bytesOf 4 v) ⌝ }
-{
-    out[at] = (v % 256) as u8;
-    out[at + 1] = (v / 256 % 256) as u8;
-    out[at + 2] = (v / 256 / 256 % 256) as u8;
-    out[at + 3] = (v / 256 / 256 / 256 % 256) as u8;
-}
-
-// The eight bytes of v.
-pub fn put_long(out: &mut [u8], at: usize, v: u64)
-    requires { ⌜ at + 8 ≤ length (now out) ⌝ }
-    ensures { λ _. ⌜ now (out .exit) ≡ sets (now (out .entry)) at (bytesOf 8 v) ⌝ }
-{
-    put_word(out, at, (v % 4294967296) as u32);
-    put_word(out, at + 4, (v / 4294967296) as u32);
 }
