@@ -1,2 +1,5 @@
 pub mod MaskBits
 pub mod MaskParts
+pub mod OnePart
+pub mod Walk
+pub mod Rank

@@ -120,7 +120,7 @@ digit-cond zero h = refl
 digit-cond (suc zero) h = refl
 digit-cond (suc (suc d)) h = absurd (not-suc-le-zero (le-of-suc-le-suc (le-of-suc-le-suc h)))
 
-count-from : (n m : ℕ) → m < 2 ^ n → length (keep (has m) (from 0 n)) ≡ ones m
+pub count-from : (n m : ℕ) → m < 2 ^ n → length (keep (has m) (from 0 n)) ≡ ones m
 unfolding keep from ones
 count-from zero m h = sym (ap ones (lt-one h))
 count-from (suc n) m h =
