@@ -1,0 +1,2 @@
+pub mod RowFields
+pub mod HeadLaws
