@@ -1,4 +1,6 @@
-// The judgements of a row, one for each of the refusals 7 to 12.
+// The judgements of a row, one for each of the refusals 7 to 12, a module for each.
+pub mod fields;
+pub mod order;
 
 // The rules in the order of the refusals 7 to 12. Twins is the half of Copies that looks only at the copies that a row names.
 pub enum Rule {
