@@ -3,4 +3,8 @@ pub mod Remotes
 pub mod RowBack
 pub mod RowForth
 pub mod Codec
+pub mod Meshes
+pub mod Table
 pub mod Cases
+pub mod MoreCases
+pub mod Limits
