@@ -53,7 +53,7 @@ bitsOf p = toBits binary64 (p .x) ∷ toBits binary64 (p .y) ∷ toBits binary64
 abbrev pub box : List ℕ → ℕ → List ℕ
 box b q =
     elim (boxOf b q) [
-      refused n p ↦ n ∷ p .major ∷ p .minor ∷ []
+      | refused n p ↦ n ∷ p .major ∷ p .minor ∷ []
       | accepted r ↦ 0 ∷ elim r [ none ↦ [] | some x ↦ bitsOf (x .least) ++ bitsOf (x .greatest) ]
     ]
 
