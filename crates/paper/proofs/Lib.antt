@@ -8,3 +8,5 @@ pub mod Table
 pub mod Cases
 pub mod MoreCases
 pub mod Limits
+pub mod Injective
+pub mod NameOrder
