@@ -10,3 +10,5 @@ pub mod MoreCases
 pub mod Limits
 pub mod Injective
 pub mod NameOrder
+pub mod OwnMeshes
+pub mod OwnCases
