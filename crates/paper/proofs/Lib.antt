@@ -12,3 +12,4 @@ pub mod Injective
 pub mod NameOrder
 pub mod OwnMeshes
 pub mod OwnCases
+pub mod OwnMoves
