@@ -3,6 +3,7 @@ pub mod Remotes
 pub mod RowBack
 pub mod RowForth
 pub mod Codec
+pub mod ImageCodec
 pub mod Meshes
 pub mod Table
 pub mod Cases
