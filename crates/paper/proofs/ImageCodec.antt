@@ -1,8 +1,8 @@
 -- The codec of whole images, two theorems: what is decoded from bytes is encoded to those bytes, and what is encoded is decoded again.
 -- Decoding is the refusals 1 to 6, the first half of the check. Assumes nothing.
-use Prim.Native.Nat.{ℕ, zero, suc, _+_, _^_, _<_, _≤_}
+use Prim.Native.Nat.{ℕ, zero, suc, _^_, _<_, _≤_}
 use native.Mathlib.Omega.{arith}
-use mathlib.Core.Path.{_≡_, refl, sym, ap, ap₂, _∙_, subst}
+use mathlib.Core.Path.{_≡_, refl, sym, ap, _∙_}
 use mathlib.Core.Bool.{Bool, true, false, _&&_}
 use mathlib.Core.List.{List, [], _∷_, _++_, map}
 use mathlib.Core.Option.{Option, none, some}
@@ -16,7 +16,7 @@ use Rattle.field.proofs.Reading.{bytes-drop}
 use Rattle.paper.specs.Outcome.{Outcome, refused, accepted, _>>=_, _>>_, must, get}
 use Rattle.paper.specs.Image.{Row, Set, noRow, walkParts, rowBytes, partBytes, imageOf, rowAt}
 use Rattle.paper.specs.Sound.{fieldsFit, ordered, boundaryStands, copiesAgree, residesWell, ownedWell, rowsMust, soundOf}
-use Rattle.paper.proofs.Outcomes.{bind-inv, then-inv, must-inv, not-refused, accepted-inj}
+use Rattle.paper.proofs.Outcomes.{then-inv, must-inv, not-refused, accepted-inj}
 use Rattle.paper.proofs.RowBack.{RowFits}
 use Rattle.paper.proofs.Codec.{parts-walk, parts-back, same-eq, head-is}
 

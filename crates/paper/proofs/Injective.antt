@@ -4,11 +4,10 @@
 use Prim.Native.Nat.{ℕ, zero, suc, _/_, _%_, _^_, _<_, _≤_}
 use native.Mathlib.Omega.{arith}
 use mathlib.Core.Path.{_≡_, refl, sym, ap, _∙_}
-use mathlib.Core.Bool.{Bool, true, false, not, _&&_}
-use mathlib.Core.Option.{none, some}
+use mathlib.Core.Bool.{true, false, _&&_}
 use lib.Dec.{T, eqb, eqb→eq}
 use lib.Pow.{field}
-use lib.Ieee.{binary64, nanBits, ofBits, toBits, isNan}
+use lib.Ieee.{binary64, nanBits, ofBits, toBits}
 use lib.Ieee.Bits.{toBits-ofBits, nanBits-is}
 use borrow.Author.Tests.{eqb-false, eq-eqb, ne-eqb, not-true}
 use Rattle.laws.proofs.Members.{T-true}
@@ -22,7 +21,7 @@ use Rattle.paper.specs.declared.LookupAnswer.{LookupAnswer}
 use Rattle.paper.specs.declared.LookupAnswer.the-variants as lookup
 use Rattle.paper.specs.declared.BoxAnswer.{BoxAnswer}
 use Rattle.paper.specs.declared.BoxAnswer.the-variants as box
-use Rattle.paper.specs.Outcome.{Outcome, refused, accepted}
+use Rattle.paper.specs.Outcome.{Outcome, refused}
 use Rattle.paper.specs.Sound.{finite, valueFits}
 use Rattle.paper.specs.Answers.{placeOf, valueOf, sameValue, checkAnswer, migrateAnswer, lookupAnswer, boxAnswer}
 use Rattle.paper.proofs.Outcomes.{accepted-inj}

@@ -1,8 +1,8 @@
 -- The limits that no computed case reaches, 1, 18 and `too long`: each is given exactly when the document says, its numbers written out.
 -- Assumes nothing.
 use Prim.Native.Nat.{ℕ, _<_, _≤_}
-use mathlib.Core.Path.{_≡_, refl, sym, ap, subst, _∙_}
-use mathlib.Core.Bool.{Bool, true, false, not, cond}
+use mathlib.Core.Path.{_≡_, refl, sym, ap, subst}
+use mathlib.Core.Bool.{Bool, true, false, not}
 use mathlib.Core.List.{List, [], _∷_}
 use mathlib.Core.Option.{Option, none, some}
 use lib.ListN.{length}
@@ -10,7 +10,7 @@ use lib.Dec.{T, eqb, leb, leb→le}
 use borrow.Author.Tests.{lt-ltb, le-ltb, lt-leb, leb-false, eq-eqb}
 use Rattle.paper.specs.Outcome.{Outcome, Place, refused, accepted, nowhere, _>>=_, _>>_, must, get, unless}
 use Rattle.paper.specs.Image.{Set}
-use Rattle.paper.specs.Sound.{soundOf, checkOf, firstFault, rowsMust}
+use Rattle.paper.specs.Sound.{soundOf, checkOf, rowsMust}
 use Rattle.paper.specs.Move.{Migrated, migrated, sizeSet, entriesMust}
 use Rattle.paper.specs.Listing.{answerText, listingOf}
 use Rattle.paper.proofs.Outcomes.{not-refused, accepted-inj, then-inv, must-inv}

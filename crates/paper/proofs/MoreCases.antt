@@ -1,13 +1,13 @@
 -- The cases of document 01 that are not marked P, its listing, and sentences of it that its cases leave open: by computation, as the P
 -- cases are, and beside their table. Assumes nothing.
 use mathlib.Core.Path.{_≡_, refl}
-use mathlib.Core.List.{[], _∷_, _++_}
+use mathlib.Core.List.{[], _∷_}
 use lib.Ieee.{toBits}
-use lib.ListN.{length, set}
+use lib.ListN.{set}
 use Rattle.paper.specs.Move
 use Rattle.paper.specs.Box
 use Rattle.paper.specs.Listing
-use Rattle.paper.specs.Listing.{decimal, answerText, listingOf}
+use Rattle.paper.specs.Listing.{decimal, listingOf}
 use Rattle.paper.specs.Move.{migrateOf}
 use Rattle.paper.proofs.Meshes.{one, A, B}
 use Rattle.paper.proofs.Table.{Cases, wrong, check, send, move, numbers, image, box, ascii, text}

@@ -7,29 +7,8 @@ use lib.ListN.{set, take, replicate}
 use Rattle.paper.specs.Move
 use Rattle.paper.specs.Lookup
 use Rattle.paper.specs.Mesh.{Entity}
-use Rattle.paper.proofs.Meshes.{one, ent, imageWith, v1, v2, v3, v4, v5, e1, e2, e3, t1, A, B}
-use Rattle.paper.proofs.OwnMeshes.{
-  minusZero,
-  largest,
-  infinity,
-  nan,
-  two,
-  valued,
-  vertex,
-  lone,
-  bar,
-  tri,
-  triOver,
-  e6,
-  t3,
-  tetOver,
-  tet,
-  first,
-  second,
-  twin,
-  star,
-  far,
-}
+use Rattle.paper.proofs.Meshes.{one, ent, imageWith, v1, v2, v3, v4, v5, e1, e2, e3, t1, B}
+use Rattle.paper.proofs.OwnMeshes.{minusZero, largest, infinity, nan, two, valued, vertex, lone, bar, tri, triOver, e6, tetOver, tet, first, second, twin, star, far}
 use Rattle.paper.proofs.Table.{Cases, wrong, check, lookup, put}
 
 -- ---- the layout, byte by byte

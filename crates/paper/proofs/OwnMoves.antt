@@ -4,15 +4,15 @@ use Prim.Native.Nat.{ℕ}
 use mathlib.Core.Path.{_≡_, refl}
 use mathlib.Core.List.{List, [], _∷_, _++_}
 use lib.Ieee.{toBits}
-use lib.ListN.{length, set, take, drop, replicate}
+use lib.ListN.{set, take, replicate}
 use Rattle.paper.specs.Move
 use Rattle.paper.specs.Lookup
 use Rattle.paper.specs.Box
 use Rattle.paper.specs.Mesh.{Entity}
 use Rattle.paper.specs.Move.{migrateOf, sizesOf, outAfter, workAfter}
-use Rattle.paper.proofs.Meshes.{one, ent, imageWith, v1, v2, v3, v4, v5, e1, e2, e3, e4, e5, t1, t2, A, B}
-use Rattle.paper.proofs.OwnMeshes.{minusZero, nan, two, three, minusOne, minusTwo, minusThree, valued, vertex, lone, bar, e6, first, second, twin, star, kit, far}
-use Rattle.paper.proofs.Table.{Cases, wrong, check, send, move, numbers, image, lookup, box, put}
+use Rattle.paper.proofs.Meshes.{one, ent, imageWith, v1, v2, v3, v4, v5, e1, e2, B}
+use Rattle.paper.proofs.OwnMeshes.{minusZero, nan, two, three, minusOne, minusTwo, minusThree, valued, vertex, lone, e6, first, second, twin, star, kit, far}
+use Rattle.paper.proofs.Table.{Cases, wrong, check, send, move, numbers, image, lookup, box}
 
 -- ---- 13: the list. The objects of `kit` are vertex 5 and edge 1, in part 0 of two
 

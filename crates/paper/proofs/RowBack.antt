@@ -1,6 +1,6 @@
 -- A row, the rows of a part and a set are read back from their bytes.
 -- Assumes nothing.
-use Prim.Native.Nat.{ℕ, suc, _*_, _^_, _<_, suc-le-suc}
+use Prim.Native.Nat.{ℕ, suc, _^_, _<_, suc-le-suc}
 use native.Mathlib.Nat.{zero-lt-suc}
 use native.Mathlib.Omega.{arith}
 use mathlib.Core.Path.{_≡_, refl, sym, ap, ap₂, _∙_}
