@@ -5,3 +5,5 @@ pub mod Changes
 pub mod Lands
 pub mod Again
 pub mod Empty
+pub mod OneToOne
+pub mod Unique
