@@ -7,3 +7,5 @@ pub mod Again
 pub mod Empty
 pub mod OneToOne
 pub mod Unique
+pub mod Programs
+pub mod WrongPrograms

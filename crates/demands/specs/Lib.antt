@@ -1,1 +1,4 @@
 pub mod History
+pub mod Meshes
+pub mod Programs
+pub mod WrongPrograms
