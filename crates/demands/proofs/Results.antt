@@ -5,6 +5,10 @@ pub mod Changes
 pub mod Lands
 pub mod Again
 pub mod Empty
+pub mod ReverseList
+pub mod Reverse
+pub mod Nothing
+pub mod EmptyPart
 pub mod OneToOne
 pub mod Unique
 pub mod Programs

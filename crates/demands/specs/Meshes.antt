@@ -61,9 +61,16 @@ imageWith ps = imageOf (rowsFor ps)
 abbrev pub A : List ℕ
 A = imageWith ((v1 ∷ v2 ∷ v3 ∷ v4 ∷ e1 ∷ e2 ∷ e3 ∷ e4 ∷ e5 ∷ t1 ∷ t2 ∷ []) ∷ [] ∷ [])
 
+-- mesh A whole in part 1
+abbrev pub A-in-1 : List ℕ
+A-in-1 = imageWith ([] ∷ (v1 ∷ v2 ∷ v3 ∷ v4 ∷ e1 ∷ e2 ∷ e3 ∷ e4 ∷ e5 ∷ t1 ∷ t2 ∷ []) ∷ [])
+
 -- mesh A with triangle 2 in part 1
+abbrev pub partsB : Parts
+partsB = (v1 ∷ v2 ∷ v3 ∷ e1 ∷ e2 ∷ e3 ∷ t1 ∷ []) ∷ (v2 ∷ v3 ∷ v4 ∷ e3 ∷ e4 ∷ e5 ∷ t2 ∷ []) ∷ []
+
 abbrev pub B : List ℕ
-B = imageWith ((v1 ∷ v2 ∷ v3 ∷ e1 ∷ e2 ∷ e3 ∷ t1 ∷ []) ∷ (v2 ∷ v3 ∷ v4 ∷ e3 ∷ e4 ∷ e5 ∷ t2 ∷ []) ∷ [])
+B = imageWith partsB
 
 -- A with a lone vertex 5
 abbrev pub A₅ : List ℕ
