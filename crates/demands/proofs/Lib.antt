@@ -5,3 +5,4 @@ pub mod Fit
 pub mod Mesh
 pub mod Theorems
 pub mod ForCode
+pub mod Results
