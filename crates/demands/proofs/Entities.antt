@@ -1,5 +1,4 @@
 -- Entities by their names: lists of them in order, and closures, with no word of rows.
-pub mod Ascending
 pub mod Names
 pub mod Sorted
 pub mod Closed

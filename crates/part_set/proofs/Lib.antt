@@ -1,2 +1,4 @@
+-- Laws of masks.
 pub mod MaskBits
 pub mod MaskParts
+pub mod MaskOps

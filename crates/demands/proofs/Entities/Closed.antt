@@ -1,39 +1,22 @@
 -- What is judged of an entity in a list that is closed under boundaries is judged the same in a larger list.
 -- Assumes nothing.
-use Prim.Native.Nat.{ℕ, zero, suc, _+_, _*_, _^_, _<_, _≤_}
-use native.Mathlib.Omega.{arith}
+use Prim.Native.Nat.{ℕ, zero, suc, _+_, _^_, _<_, _≤_}
 use native.Mathlib.Nat.{not-suc-le-zero, le-of-suc-le-suc}
 use mathlib.Core.Path.{_≡_, refl, sym, ap, ap₂, _∙_, subst}
-use mathlib.Core.Bool.{Bool, true, false, _&&_, _||_, not}
-use mathlib.Core.Logic.{_⊎_, inl, inr}
-use mathlib.Core.List.{List, [], _∷_, map}
+use mathlib.Core.Bool.{Bool, _&&_, _||_, not}
+use mathlib.Core.List.{List, map}
 use lib.ListN.{length}
 use lib.Dec.{T, eqb, eqb→eq, ltb, leb, leb→le, ltb→lt, le→leb, lt→ltb}
-use Rattle.laws.specs.Lists.{In, every, some?, keep, pairwise, ascending, member, same, unions}
-use Rattle.paper.specs.Sound.{finite, valueFits}
-use Rattle.paper.specs.Mesh.{Entity, nameOf, name, holds, entNamed, shapeIn, vertices, facesOf, shareEdges, simplex}
+use Rattle.laws.specs.Lists.{In, every, some?, keep, ascending, member, same, unions}
+use Rattle.paper.specs.Sound.{valueFits}
+use Rattle.paper.specs.Mesh.{Entity, nameOf, holds, shapeIn, vertices, facesOf, shareEdges, simplex}
 use Rattle.paper.specs.Placement.{shapeFits, entFits}
-use Rattle.laws.proofs.Tests.{both, split2, split3, split7, join3, join7}
-use Rattle.laws.proofs.Members.{eq-eqb, map-same, every-in, in-every}
+use Rattle.laws.proofs.Tests.{both, split2, split3, split7, join3, join7, eq-eqb}
+use Rattle.laws.proofs.Agree.{map-same, every-same, some-same, pairwise-same}
+use Rattle.laws.proofs.Members.{every-in, in-every}
 use Rattle.demands.proofs.Entities.Names.{Uniq, holds-in, in-holds, named-is, name-dim, name-number}
 
 -- ---- tests that agree on the members
-
-every-same : {A : Type 0} (f g : A → Bool) (xs : List A) → ((a : A) → In a xs → f a ≡ g a) → every f xs ≡ every g xs
-unfolding every
-every-same f g [] h = refl
-every-same f g (x ∷ xs) h = ap₂ _&&_ (h x (inl refl)) (every-same f g xs (λ a i. h a (inr i)))
-
-some-same : {A : Type 0} (f g : A → Bool) (xs : List A) → ((a : A) → In a xs → f a ≡ g a) → some? f xs ≡ some? g xs
-unfolding some?
-some-same f g [] h = refl
-some-same f g (x ∷ xs) h = ap₂ _||_ (h x (inl refl)) (some-same f g xs (λ a i. h a (inr i)))
-
-pairwise-same : {A : Type 0} (f g : A → A → Bool) (xs : List A) → ((a b : A) → In a xs → In b xs → f a b ≡ g a b) → pairwise f xs ≡ pairwise g xs
-unfolding pairwise
-pairwise-same f g [] h = refl
-pairwise-same f g (x ∷ xs) h =
-    ap₂ _&&_ (every-same (f x) (g x) xs (λ a i. h x a (inl refl) (inr i))) (pairwise-same f g xs (λ a b i j. h a b (inr i) (inr j)))
 
 -- ---- closed under boundaries
 

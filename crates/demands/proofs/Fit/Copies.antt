@@ -1,29 +1,31 @@
 -- Rule 10 of the rows that fitting parts make: the copies agree.
 -- Assumes nothing.
-use Prim.Native.Nat.{ℕ, zero, suc, _+_, _*_, _^_, _<_, _≤_}
+use Prim.Native.Nat.{ℕ, _^_, _<_}
 use native.Mathlib.Omega.{arith}
-use mathlib.Core.Path.{_≡_, refl, sym, ap, ap₂, _∙_, subst, subst₂}
-use mathlib.Core.Bool.{Bool, true, false, not, _&&_, _||_}
+use mathlib.Core.Path.{_≡_, refl, sym, ap, _∙_, subst, subst₂}
+use mathlib.Core.Bool.{not, _||_}
 use mathlib.Core.Logic.{_⊎_, inl, inr}
-use mathlib.Core.List.{List, [], _∷_, map}
+use mathlib.Core.List.{List, [], map}
 use lib.ListN.{length, getD, length-map, List·getD-map}
-use lib.Dec.{T, eqb, ltb, ltb→lt, lt→ltb, eqb-refl}
+use lib.Dec.{T, eqb, ltb, lt→ltb, eqb-refl}
 use Rattle.laws.specs.Lists.{In, every, same, upTo, member, indexOf}
 use Rattle.part_set.specs.Masks.{has, others, partsIn}
-use Rattle.paper.specs.Image.{Row, Set, noRow, rowAt}
-use Rattle.paper.specs.Mesh.{Entity, Parts, nameOf, name, noEnt, sameEnt, entOf, holds, slotIn, ownerOf}
+use Rattle.paper.specs.Image.{Row, noRow, rowAt}
+use Rattle.paper.specs.Mesh.{Entity, Parts, name, noEnt, sameEnt, entOf, holds, slotIn, ownerOf}
 use Rattle.paper.specs.Sound.{nameOfRow, remoteSlot, twinAgrees, copiesAgree}
 use Rattle.paper.specs.Placement.{residenceIn, rowFor, rowsFor}
-use Rattle.laws.proofs.Tests.{both, join4, join5}
-use Rattle.laws.proofs.Members.{map-of-map, or-l, or-r, decide, in-every, map-in, getD-map, getD-in, eq-eqb, upTo-in}
+use Rattle.laws.proofs.Tests.{both, join4, join5, or-l, or-r, decide, eq-eqb}
+use Rattle.laws.proofs.Agree.{map-of-map}
+use Rattle.laws.proofs.Members.{in-every, getD-in}
+use Rattle.laws.proofs.Ranges.{upTo-in}
 use Rattle.demands.proofs.Entities.Names.{holds-in, in-holds}
-use Rattle.laws.proofs.Ascending.{read-at, index-getD}
+use Rattle.laws.proofs.Places.{read-at, index-getD}
 use Rattle.part_set.proofs.MaskParts.{others-in, in-others, others-ascends}
-use Rattle.paper.proofs.Codec.{same-refl}
+use Rattle.laws.proofs.Same.{same-refl}
 use Rattle.demands.proofs.Rows.ReadBack.{slot-lt, slot-name}
 use Rattle.demands.proofs.Fit.Record.{Fit}
 use Rattle.demands.proofs.Rows.Made.{rows-count, rows-part}
-use Rattle.demands.proofs.Fit.Rows.{rowsIn, in-rows, row-at, ent-back, has-residence, residence-holds, holds-residence}
+use Rattle.demands.proofs.Fit.Rows.{in-rows, row-at, ent-back, has-residence, residence-holds, holds-residence}
 use Rattle.demands.proofs.Fit.Fields.{part-small}
 
 same-self : (e : Entity) → T (sameEnt e e)

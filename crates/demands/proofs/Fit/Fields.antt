@@ -3,32 +3,32 @@
 use Prim.Native.Nat.{ℕ, zero, suc, _+_, _-_, _*_, _/_, _%_, _^_, _<_, _≤_}
 use native.Mathlib.Nat.{mod-lt}
 use native.Mathlib.Omega.{arith}
-use mathlib.Core.Path.{_≡_, refl, sym, ap, ap₂, _∙_, subst}
+use mathlib.Core.Path.{_≡_, refl, sym, ap, _∙_, subst}
 use mathlib.Core.Bool.{Bool, true, false, cond, _&&_}
-use mathlib.Core.Logic.{_⊎_, inl, inr}
+use mathlib.Core.Logic.{inl, inr}
 use mathlib.Core.List.{List, [], _∷_, _++_, map}
-use lib.ListN.{length, getD, drop, replicate, length-map, length-append, length-replicate}
+use lib.ListN.{length, getD, replicate, length-map, length-append, length-replicate}
 use lib.Seq.{drop-at}
 use lib.Pow.{areBytes, pow-mono}
-use lib.Dec.{T, eqb, ltb, leb, ltb→lt, lt→ltb, le→leb, lit<}
-use Rattle.laws.specs.Lists.{In, flat, every, indexOf}
-use Rattle.field.specs.Bytes.{longs, bytesOf}
+use lib.Dec.{T, eqb, ltb, leb, lt→ltb, le→leb, lit<}
+use Rattle.laws.specs.Lists.{In, flat, every}
+use Rattle.field.specs.Bytes.{bytesOf}
 use Rattle.part_set.specs.Masks.{has, partsIn, others}
-use Rattle.paper.specs.Image.{Row, Set, noRow, remotes, rowBytes, partBytes, imageOf}
-use Rattle.paper.specs.Mesh.{Entity, Parts, nameOf, name, noEnt, slotIn, objectsIn, poorest, ownerOf}
+use Rattle.paper.specs.Image.{rowBytes}
+use Rattle.paper.specs.Mesh.{Entity, Parts, nameOf, name, slotIn, objectsIn, poorest, ownerOf}
 use Rattle.paper.specs.Sound.{finite, valueFits, bodyFits, fieldsFit}
-use Rattle.paper.specs.Placement.{residenceIn, bodyIn, rowFor, rowsFor}
+use Rattle.paper.specs.Placement.{residenceIn, bodyIn, rowFor}
 use Rattle.laws.proofs.Tests.{both, and-l, and-r, join8}
-use Rattle.laws.proofs.Members.{in-every, map-in, part-lt, eq-eqb, getD-in, in-getD}
+use Rattle.laws.proofs.Members.{in-every, map-in, part-lt}
 use Rattle.field.proofs.Numbers.{length-bytes}
-use Rattle.paper.proofs.RowBack.{RowFits}
 use Rattle.paper.proofs.Codec.{Wide}
-use Rattle.demands.proofs.Rows.Bodies.{length-eights, zeros-are}
+use Rattle.demands.proofs.Rows.Bodies.{length-eights}
+use Rattle.laws.proofs.Zeros.{zeros-are}
 use Rattle.part_set.proofs.MaskParts.{partsIn-in, in-partsIn}
 use Rattle.paper.proofs.Remotes.{remotes-others}
-use Rattle.demands.proofs.Entities.Closed.{EntOk, FacesOk}
 use Rattle.demands.proofs.Fit.Record.{Fit}
-use Rattle.demands.proofs.Fit.Rows.{Coords, coords-at, coords-back, faces-at, residence-lt, residence-holds, holds-residence}
+use Rattle.demands.proofs.Fit.Rows.{coords-at, coords-back, faces-at, residence-lt, residence-holds, holds-residence}
+use Rattle.laws.proofs.Places.{index-le}
 
 -- ---- bytes
 
@@ -83,15 +83,6 @@ owner-in : (ps : Parts) (qs : List ℕ) (p : ℕ) → In p qs → In (ownerOf ps
 unfolding ownerOf
 owner-in ps [] p i = absurd i
 owner-in ps (q ∷ qs) p i = poorest-in (objectsIn ps) q qs
-
-index-le : (k : ℕ) (xs : List ℕ) → indexOf k xs ≤ length xs
-unfolding indexOf
-index-le k [] = omega arith
-index-le k (x ∷ xs) = go (eqb k x) (index-le k xs)
-  where
-    go : (b : Bool) → indexOf k xs ≤ length xs → cond b 0 (suc (indexOf k xs)) ≤ suc (length xs)
-    go true h = omega arith
-    go false h = omega arith
 
 slot-le : (es : List Entity) (k : ℕ) → slotIn es k ≤ length es
 unfolding slotIn

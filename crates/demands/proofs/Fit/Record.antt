@@ -5,7 +5,7 @@
 use Prim.Native.Nat.{ℕ, _<_, _≤_}
 use mathlib.Core.Path.{_≡_}
 use mathlib.Core.Logic.{_⊎_}
-use mathlib.Core.List.{List, [], map}
+use mathlib.Core.List.{[], map}
 use lib.ListN.{length, getD}
 use lib.Dec.{T}
 use Rattle.laws.specs.Lists.{In, flat, ascending}

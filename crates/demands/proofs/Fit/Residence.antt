@@ -1,25 +1,25 @@
 -- Rule 11 of the rows that fitting parts make: an object is in one part, any other entity where what it bounds is.
 -- Assumes nothing.
-use Prim.Native.Nat.{ℕ, zero, suc, _+_, _*_, _^_, _<_, _≤_}
-use native.Mathlib.Omega.{arith}
-use mathlib.Core.Path.{_≡_, refl, sym, ap, ap₂, _∙_, subst, subst₂}
-use mathlib.Core.Bool.{Bool, true, false, not}
+use Prim.Native.Nat.{ℕ, zero, suc, _^_, _<_}
+use mathlib.Core.Path.{_≡_, refl, sym, ap, _∙_, subst, subst₂}
+use mathlib.Core.Bool.{Bool}
 use mathlib.Core.Logic.{_⊎_, inl, inr}
-use mathlib.Core.List.{List, [], _∷_, map}
+use mathlib.Core.List.{List, [], _∷_}
 use lib.ListN.{length, getD}
-use lib.Dec.{T, eqb}
+use lib.Dec.{T}
 use Rattle.laws.specs.Lists.{In, some?, flat}
 use Rattle.part_set.specs.Masks.{has, count, partsIn, maskOf}
-use Rattle.paper.specs.Image.{Row, Set, noRow, rowAt}
-use Rattle.paper.specs.Mesh.{Entity, Parts, nameOf, name, noEnt, bounds, isObject, holds}
+use Rattle.paper.specs.Image.{Row, noRow, rowAt}
+use Rattle.paper.specs.Mesh.{Entity, Parts, name, noEnt, bounds, isObject, holds}
 use Rattle.paper.specs.Sound.{nameOfRow, rowsAbove, residence, residesWell}
 use Rattle.paper.specs.Placement.{residenceIn, rowFor, rowsFor}
-use Rattle.laws.proofs.Members.{iff-eq, eq-eqb, getD-in, in-getD, in-flat, some-in, in-some}
-use Rattle.demands.proofs.Entities.Names.{in-holds, bounds-in, vertex-bounds, not-object}
+use Rattle.laws.proofs.Tests.{iff-eq, eq-eqb}
+use Rattle.laws.proofs.Members.{getD-in, in-getD, in-flat, some-in, in-some}
+use Rattle.demands.proofs.Entities.Names.{bounds-in, vertex-bounds, not-object}
 use Rattle.part_set.proofs.MaskBits.{has-maskOf, mask-ext}
 use Rattle.laws.proofs.Ascending.{one-only}
-use Rattle.part_set.proofs.MaskParts.{maskOf-lt, partsIn-in, in-partsIn, partsIn-ascends}
-use Rattle.demands.proofs.Entities.Closed.{Closed, fits-closed}
+use Rattle.part_set.proofs.MaskParts.{maskOf-lt, partsIn-in, partsIn-ascends}
+use Rattle.demands.proofs.Entities.Closed.{fits-closed}
 use Rattle.demands.proofs.Fit.Record.{Fit}
 use Rattle.demands.proofs.Rows.Made.{rows-count}
 use Rattle.demands.proofs.Sound.Rows.{ent}

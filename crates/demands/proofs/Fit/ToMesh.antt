@@ -1,24 +1,23 @@
 -- Fit to mesh: parts that fit are the spread of their mesh, each object where it is found, and the mesh fits.
 -- Assumes nothing.
-use Prim.Native.Nat.{ℕ, _<_, _≤_}
-use native.Mathlib.Omega.{arith}
-use mathlib.Core.Path.{_≡_, refl, sym, ap, _∙_, subst}
+use Prim.Native.Nat.{ℕ, _<_}
+use mathlib.Core.Path.{_≡_, sym, subst}
 use mathlib.Core.Bool.{Bool}
-use mathlib.Core.Logic.{_⊎_, inl, inr}
-use mathlib.Core.List.{List, [], _∷_, map}
+use mathlib.Core.Logic.{_⊎_}
+use mathlib.Core.List.{List, [], map}
 use lib.ListN.{length, getD}
 use lib.Seq.{ext-getD}
-use lib.Dec.{T, ltb, leb, lt→ltb, le→leb}
-use Rattle.laws.specs.Lists.{In, every, keep, flat, ascending, member}
-use Rattle.paper.specs.Mesh.{Entity, Parts, name, bounds, isObject, holds, sortEnts, meshOf}
-use Rattle.paper.specs.Placement.{Placement, objects, closures, spread, placeIn, placesOf, entFits, meshFits, WellPlaced}
+use lib.Dec.{T, ltb, lt→ltb, le→leb}
+use Rattle.laws.specs.Lists.{In, every, flat, ascending, member}
+use Rattle.paper.specs.Mesh.{Entity, Parts, name, bounds, isObject, holds, meshOf}
+use Rattle.paper.specs.Placement.{objects, closures, spread, placeIn, placesOf, entFits, meshFits, WellPlaced}
 use Rattle.laws.proofs.Tests.{both}
-use Rattle.demands.proofs.Entities.Ascending.{ascending-ext}
-use Rattle.laws.proofs.Members.{in-flat, flat-in, in-every, map-in}
+use Rattle.laws.proofs.Keyed.{ascending-ext, ascends-uniq, keep-ascends}
+use Rattle.laws.proofs.Members.{in-flat, flat-in, in-every, map-in, part-lt}
 use Rattle.demands.proofs.Entities.Names.{Uniq, holds-in, in-holds, object-same}
-use Rattle.demands.proofs.Entities.Sorted.{sort-in, in-sort, sort-ascends, ascends-uniq, keep-ascends}
+use Rattle.demands.proofs.Entities.Sorted.{sort-in, in-sort, sort-ascends}
 use Rattle.demands.proofs.Entities.Closed.{Closed, EntOk, fits-of, fits-closed, ok-up}
-use Rattle.demands.proofs.Entities.Closures.{closureOf, closure-part, in-closure}
+use Rattle.demands.proofs.Entities.Closures.{closure-part, in-closure}
 use Rattle.demands.proofs.Mesh.Spread.{Under, objects-in, spread-length, spread-part, spread-in, in-spread, place-found}
 use Rattle.demands.proofs.Fit.Record.{Fit}
 
@@ -39,10 +38,10 @@ module _ (ps : Parts) (F : Fit ps) where
   mesh-ascends = sort-ascends (flat ps)
 
   mesh-uniq : Uniq (meshOf ps)
-  mesh-uniq = ascends-uniq (meshOf ps) mesh-ascends
+  mesh-uniq = ascends-uniq name (meshOf ps) mesh-ascends
 
   part-uniq : (p : ℕ) → Uniq (getD ps p [])
-  part-uniq p = ascends-uniq (getD ps p []) (F .ascends p)
+  part-uniq p = ascends-uniq name (getD ps p []) (F .ascends p)
 
   pub part-closed : (p : ℕ) → Closed (getD ps p [])
   part-closed p = fits-closed (getD ps p []) (F .fits p)
@@ -71,7 +70,7 @@ module _ (ps : Parts) (F : Fit ps) where
   -- an object is found where it is
   pub object-found : (p : ℕ) (e : Entity) → In e (getD ps p []) → T (isObject (meshOf ps) (name e)) → placeIn ps (name e) ≡ p
   object-found p e i t =
-      let h = Rattle.laws.proofs.Members.part-lt ps p e i in
+      let h = part-lt ps p e i in
       F .once (placeIn ps (name e)) p e (found p e h i .1) i (subst T (sym (mesh-object (name e))) t)
 
   part-resides : (p : ℕ) (e : Entity) → In e (getD ps p []) → T (isObject (meshOf ps) (name e)) ⊎ ((f : Entity) × In f (getD ps p []) × T (bounds (name e) f))
@@ -96,9 +95,9 @@ module _ (ps : Parts) (F : Fit ps) where
   pub is-spread : ps ≡ spread (length ps) (meshOf ps) (placeIn ps)
   is-spread =
       ext-getD [] ps (spread (length ps) (meshOf ps) (placeIn ps)) (sym (spread-length (length ps) (meshOf ps) (placeIn ps))) (λ p h.
-      ascending-ext (getD ps p []) (getD (spread (length ps) (meshOf ps) (placeIn ps)) p []) (F .ascends p)
+      ascending-ext name (getD ps p []) (getD (spread (length ps) (meshOf ps) (placeIn ps)) p []) (F .ascends p)
       (subst (λ (l : List Entity). T (ascending (map name l))) (sym (spread-part (length ps) (meshOf ps) (placeIn ps) p h))
-      (keep-ascends (λ e. member (name e) (closures (meshOf ps) (placeIn ps) p)) (meshOf ps) mesh-ascends))
+      (keep-ascends name (λ e. member (name e) (closures (meshOf ps) (placeIn ps) p)) (meshOf ps) mesh-ascends))
       (λ e i. in-spread (length ps) (meshOf ps) (placeIn ps) p e h (in-mesh p e i) (under p e i))
       (λ e i. let w = spread-in (length ps) (meshOf ps) (placeIn ps) p e i in no-more p e h (w .1) (w .2)))
 

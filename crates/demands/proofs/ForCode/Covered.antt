@@ -1,11 +1,11 @@
 -- Rule 11, the objects and their counts by what is on a boundary in its own part: for code that keeps one bit a row.
 -- Assumes nothing.
-use Prim.Native.Nat.{ℕ, zero, suc, _^_, _<_, _≤_}
+use Prim.Native.Nat.{ℕ, zero, suc, _^_, _<_}
 use native.Mathlib.Omega.{arith}
-use mathlib.Core.Path.{_≡_, refl, sym, ap, ap₂, _∙_, subst, subst₂}
-use mathlib.Core.Bool.{Bool, true, false, cond, not, _||_}
+use mathlib.Core.Path.{_≡_, refl, sym, ap, _∙_, subst}
+use mathlib.Core.Bool.{Bool, not, _||_}
 use mathlib.Core.Logic.{_⊎_, inl, inr}
-use mathlib.Core.List.{List, [], _∷_, map}
+use mathlib.Core.List.{List, [], _∷_}
 use lib.ListN.{length, getD}
 use lib.Dec.{T, eqb, eqb→eq, T-not, not-T}
 use Rattle.laws.specs.Lists.{In, every, some?, keep, flat}
@@ -13,7 +13,8 @@ use Rattle.part_set.specs.Masks.{has, count, partsIn, maskOf}
 use Rattle.paper.specs.Image.{Row, Set, noRow, rowAt}
 use Rattle.paper.specs.Mesh.{Entity, Parts, name, bounds, isObject, holds, entOf, partsOf, objectsIn}
 use Rattle.paper.specs.Sound.{nameOfRow, rowsAbove, residence, residesWell}
-use Rattle.laws.proofs.Members.{or-either, or-l, or-r, iff-eq, eq-eqb, getD-in, in-getD, every-in, in-every, some-in, in-some, in-flat}
+use Rattle.laws.proofs.Tests.{or-either, or-l, or-r, iff-eq}
+use Rattle.laws.proofs.Members.{getD-in, in-getD, every-in, in-every, some-in, in-some, in-flat}
 use Rattle.demands.proofs.Entities.Names.{bounds-in, vertex-bounds, not-object}
 use Rattle.part_set.proofs.MaskBits.{has-maskOf, mask-ext}
 use Rattle.laws.proofs.Ascending.{only-one}
@@ -22,8 +23,9 @@ use Rattle.demands.proofs.Entities.Closed.{Closed, EntOk, fits-closed}
 use Rattle.demands.proofs.Fit.Record.{Fit}
 use Rattle.demands.proofs.Sound.Facts.{Copied}
 use Rattle.demands.proofs.Sound.Rows.{ent, part-in, in-part, row-fields, held-has, has-in}
-use Rattle.demands.proofs.Sound.ToFit.{above-in, in-above, res-some, ent-ok, small-part}
+use Rattle.demands.proofs.Sound.ToFit.{above-in, in-above, ent-ok, small-part}
 use Rattle.demands.proofs.Fit.Residence.{some-res}
+use Rattle.laws.proofs.Agree.{keep-agree}
 
 -- some row of part q has k on its boundary
 unfoldable pub covered : Set → ℕ → ℕ → Bool
@@ -153,12 +155,6 @@ module _ (S : Set) (f : Copied S) where
   resides-covered p s h = at p s h
 
 -- ---- objects, for parts that fit
-
-keep-agree : {A : Type 0} (f g : A → Bool) (xs : List A) → ((a : A) → In a xs → f a ≡ g a) → keep f xs ≡ keep g xs
-unfolding keep
-keep-agree f g [] h = refl
-keep-agree {A} f g (x ∷ xs) h =
-    ap₂ {C = List A} (λ (b : Bool) (r : List A). cond b (x ∷ r) r) (h x (inl refl)) (keep-agree f g xs (λ a i. h a (inr i)))
 
 module _ (ps : Parts) (F : Fit ps) where
   pub object-uncovered : (p : ℕ) (e : Entity) → In e (getD ps p []) → isObject (flat ps) (name e) ≡ not (some? (bounds (name e)) (getD ps p []))

@@ -1,33 +1,25 @@
 -- "Every part that holds the entity is in the set", without a search in every part: where all twins agree it is enough that two rows
 -- which are each the lowest copy of their set do not have one name.
 -- Assumes nothing.
-use Prim.Native.Nat.{ℕ, zero, suc, _^_, _<_, _≤_}
-use native.Mathlib.Omega.{arith}
+use Prim.Native.Nat.{ℕ, _<_, _≤_}
 use mathlib.Core.Path.{_≡_, refl, sym, ap, _∙_, subst}
-use mathlib.Core.Bool.{Bool, not, _||_}
+use mathlib.Core.Bool.{not, _||_}
 use mathlib.Core.Logic.{_⊎_, inl, inr}
-use mathlib.Core.List.{List, [], _∷_, map}
+use mathlib.Core.List.{[], map}
 use lib.ListN.{length, getD, length-map}
 use lib.Dec.{T, eqb, ltb, ltb→lt, eqb→eq, T-not}
-use Rattle.laws.specs.Lists.{In, every, ascending, upTo, member}
+use Rattle.laws.specs.Lists.{In, every, ascending, upTo, member, indexOf, same}
 use Rattle.part_set.specs.Masks.{has, partsIn, others}
-use Rattle.paper.specs.Image.{Row, Set, noRow, rowAt}
-use Rattle.paper.specs.Mesh.{Entity, name, sameEnt, entOf}
+use Rattle.paper.specs.Image.{Set, noRow, rowAt}
+use Rattle.paper.specs.Mesh.{name, sameEnt, entOf}
 use Rattle.paper.specs.Sound.{nameOfRow, remoteSlot, twinAgrees}
-use Rattle.laws.proofs.Tests.{split4, split5}
-use Rattle.laws.proofs.Members.{decide, or-l, or-r, eq-eqb, every-in, in-every, member-in, map-in, in-getD, getD-map}
-use Rattle.laws.proofs.Ascending.{asc-head, index-getD}
+use Rattle.laws.proofs.Tests.{split4, split5, decide, or-l, or-r, eq-eqb}
+use Rattle.laws.proofs.Members.{every-in, in-every, member-in, map-in, in-getD}
+use Rattle.laws.proofs.Agree.{getD-map}
+use Rattle.laws.proofs.Ascending.{least}
+use Rattle.laws.proofs.Places.{index-getD}
 use Rattle.part_set.proofs.MaskParts.{partsIn-in, in-partsIn, partsIn-ascends, in-others}
 use Rattle.demands.proofs.Sound.Facts.{Each}
-
--- the least part of a set that is not empty
-least : (xs : List ℕ) → T (ascending xs) → (p : ℕ) → In p xs → (q : ℕ) × In q xs × ((x : ℕ) → In x xs → q ≤ x)
-least [] t p i = absurd i
-least (x ∷ xs) t p i = (x, inl refl, le)
-  where
-    le : (y : ℕ) → In y (x ∷ xs) → x ≤ y
-    le y (inl e) = omega arith
-    le y (inr j) = omega (arith, asc-head x xs t y j)
 
 module _ (S : Set) (few : length S ≤ 64) (own : Each S (λ p s. (p < 64) × T (has (getD (getD S p []) s noRow .mask) p)))
     (ascends : (p : ℕ) → T (ascending (map nameOfRow (getD S p []))))
@@ -49,7 +41,7 @@ module _ (S : Set) (few : length S ≤ 64) (own : Each S (λ p s. (p < 64) × T 
       let g = entOf (getD S q []) w in
       let a = split5 (ltb t (length (getD S q []))) (sameEnt e g) (eqb (r .mask) (w .mask)) (eqb (r .owner) (w .owner)) (eqb (remoteSlot w q p) s)
       (every-in (twinAgrees S p s) (others (r .mask) p) (twins p s h) q i) in
-      let c = split4 (eqb (name e) (name g)) (eqb (e .kind) (g .kind)) (eqb (e .value) (g .value)) (Rattle.laws.specs.Lists.same (e .shape) (g .shape)) (a .1) in
+      let c = split4 (eqb (name e) (name g)) (eqb (e .kind) (g .kind)) (eqb (e .value) (g .value)) (same (e .shape) (g .shape)) (a .1) in
       record {
         slot = t;
         there = ltb→lt t (length (getD S q [])) (a .0);
@@ -87,10 +79,10 @@ module _ (S : Set) (few : length S ≤ 64) (own : Each S (λ p s. (p < 64) × T 
   one-slot p s t hs ht e =
       let rows = getD S p [] in
       let n = length-map rows nameOfRow in
-      let at : (i : ℕ) → i < length rows → Rattle.laws.specs.Lists.indexOf (nameOfRow (getD rows i noRow)) (map nameOfRow rows) ≡ i = λ i h.
-      ap (λ (k : ℕ). Rattle.laws.specs.Lists.indexOf k (map nameOfRow rows)) (sym (getD-map nameOfRow rows i noRow 0 h))
+      let at : (i : ℕ) → i < length rows → indexOf (nameOfRow (getD rows i noRow)) (map nameOfRow rows) ≡ i = λ i h.
+      ap (λ (k : ℕ). indexOf k (map nameOfRow rows)) (sym (getD-map nameOfRow rows i noRow 0 h))
       ∙ index-getD (map nameOfRow rows) (ascends p) i (subst (λ (z : ℕ). i < z) (sym n) h) in
-      sym (at s hs) ∙ ap (λ (k : ℕ). Rattle.laws.specs.Lists.indexOf k (map nameOfRow rows)) e ∙ at t ht
+      sym (at s hs) ∙ ap (λ (k : ℕ). indexOf k (map nameOfRow rows)) e ∙ at t ht
 
   module _ (distinct : (p s q t : ℕ) → s < length (getD S p []) → t < length (getD S q []) → Low p s → Low q t
       → nameOfRow (getD (getD S p []) s noRow) ≡ nameOfRow (getD (getD S q []) t noRow) → p ≡ q) where

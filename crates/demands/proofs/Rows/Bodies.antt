@@ -1,13 +1,12 @@
 -- The 24 bytes of a body: coordinates as bits, or slots and zeros.
 -- Assumes nothing.
-use Prim.Native.Nat.{ℕ, zero, suc, _+_, _-_, _*_, _^_, _<_, _≤_}
+use Prim.Native.Nat.{ℕ, zero, suc, _+_, _-_, _*_, _^_, _≤_}
 use native.Mathlib.Omega.{arith}
-use mathlib.Core.Path.{_≡_, refl, sym, ap, ap₂, _∙_, subst}
-use mathlib.Core.Bool.{Bool}
+use mathlib.Core.Path.{_≡_, refl, sym, ap, ap₂, _∙_}
 use mathlib.Core.List.{List, [], _∷_, _++_, map, append-assoc, append-nil}
-use lib.ListN.{length, drop, replicate, length-drop, length-append, length-replicate, drop-of-length-le}
+use lib.ListN.{length, drop, replicate, length-drop, length-append, drop-of-length-le}
 use lib.Seq.{drop-drop, drop-at}
-use lib.Dec.{T, eqb, ltb, eqb→eq, ltb→lt, lt→ltb, eqb-refl}
+use lib.Dec.{T, eqb, ltb, ltb→lt, lt→ltb}
 use lib.Pow.{areBytes}
 use Rattle.laws.specs.Lists.{every, flat}
 use Rattle.field.specs.Bytes.{u64At, words, longs, bytesOf}
@@ -15,6 +14,7 @@ use Rattle.laws.proofs.Tests.{and-l, and-r, both}
 use Rattle.field.proofs.Numbers.{u64-back, length-bytes}
 use Rattle.paper.proofs.RowForth.{bytes-drop, u64-forth, words-forth}
 use Rattle.paper.proofs.Codec.{u64-lt}
+use Rattle.laws.proofs.Zeros.{zeros}
 
 longs-forth : (k : ℕ) (b : List ℕ) → T (areBytes b) → 8 * k ≤ length b → flat (map (bytesOf 8) (longs k b)) ++ drop (8 * k) b ≡ b
 unfolding longs flat
@@ -66,17 +66,6 @@ length-eights [] = refl
 length-eights (x ∷ xs) = omega (arith, length-append (bytesOf 8 x) (flat (map (bytesOf 8) xs)), length-bytes 8 x, length-eights xs)
 
 -- ---- slots, then zeros
-
-pub zeros : (xs : List ℕ) → T (every (eqb 0) xs) → xs ≡ replicate (length xs) 0
-unfolding every
-zeros [] t = refl
-zeros (x ∷ xs) t =
-    ap₂ {C = List ℕ} (λ (a : ℕ) (l : List ℕ). a ∷ l) (sym (eqb→eq 0 x (and-l (eqb 0 x) (every (eqb 0) xs) t))) (zeros xs (and-r (eqb 0 x) (every (eqb 0) xs) t))
-
-pub zeros-are : (n : ℕ) → T (every (eqb 0) (replicate n 0))
-unfolding every
-zeros-are zero = tt
-zeros-are (suc n) = zeros-are n
 
 pub slots-body : (d : ℕ) (body : List ℕ) → T (areBytes body) → length body ≡ 24 → d ≤ 2 → T (every (eqb 0) (drop (4 * (d + 2)) body))
     → flat (map (bytesOf 4) (words (suc (suc d)) body)) ++ replicate (24 - 4 * (d + 2)) 0 ≡ body

@@ -1,31 +1,33 @@
 -- The rows of a sound set are those that its parts make.
 -- Assumes nothing.
-use Prim.Native.Nat.{ℕ, zero, suc, _+_, _-_, _*_, _^_, _<_, _≤_}
+use Prim.Native.Nat.{ℕ, zero, suc, _+_, _-_, _*_, _^_, _<_}
 use native.Mathlib.Omega.{arith}
-use mathlib.Core.Path.{_≡_, refl, sym, ap, ap₂, _∙_, subst}
+use mathlib.Core.Path.{_≡_, refl, sym, ap, _∙_, subst}
 use mathlib.Core.Bool.{Bool}
 use mathlib.Core.List.{List, [], _∷_, _++_, map}
-use lib.ListN.{length, getD, replicate, length-map}
+use lib.ListN.{length, getD, replicate}
 use lib.Seq.{ext-getD}
-use lib.Dec.{T, eqb, eqb→eq}
-use Rattle.laws.specs.Lists.{In, flat, every}
-use Rattle.field.specs.Bytes.{words, longs, bytesOf}
+use lib.Dec.{T, eqb→eq}
+use Rattle.laws.specs.Lists.{flat}
+use Rattle.field.specs.Bytes.{words, bytesOf}
 use Rattle.part_set.specs.Masks.{has, partsIn, others, maskOf}
 use Rattle.paper.specs.Image.{Row, Set, noRow, rowAt}
-use Rattle.paper.specs.Mesh.{Entity, Parts, nameOf, name, slotsOf, shapeOf, entOf, partsOf, holds, slotIn, ownerOf}
+use Rattle.paper.specs.Mesh.{Entity, nameOf, name, slotsOf, shapeOf, entOf, partsOf, holds, slotIn, ownerOf}
 use Rattle.paper.specs.Sound.{bodyFits, remoteSlot, ownedWell}
 use Rattle.paper.specs.Placement.{residenceIn, bodyIn, rowFor, rowsFor}
-use Rattle.laws.proofs.Members.{map-of-map, iff-eq, map-same, getD-map, in-getD}
+use Rattle.laws.proofs.Agree.{map-of-map, map-same}
+use Rattle.laws.proofs.Tests.{iff-eq}
+use Rattle.laws.proofs.Members.{in-getD}
 use Rattle.demands.proofs.Entities.Names.{in-holds}
 use Rattle.part_set.proofs.MaskBits.{has-maskOf, mask-ext}
-use Rattle.laws.proofs.Ascending.{read-places}
+use Rattle.laws.proofs.Places.{read-places}
 use Rattle.part_set.proofs.MaskParts.{maskOf-lt, has-lt, others-ascends}
 use Rattle.paper.proofs.Remotes.{remotes-others}
 use Rattle.demands.proofs.Rows.Bodies.{vertex-body, slots-body}
 use Rattle.demands.proofs.Rows.Made.{rows-count, rows-part}
 use Rattle.demands.proofs.Sound.Facts.{Sound}
-use Rattle.demands.proofs.Sound.Rows.{ent, parts-at, parts-count, in-part, row-fields, row-wide, slot-is, Twin, twin, held-has, has-in}
-use Rattle.demands.proofs.Sound.ToFit.{SlotsOk, row-slots}
+use Rattle.demands.proofs.Sound.Rows.{ent, parts-at, parts-count, row-fields, row-wide, slot-is, twin, held-has, has-in}
+use Rattle.demands.proofs.Sound.ToFit.{row-slots}
 
 module _ (S : Set) (f : Sound S) where
   -- the residence set is that of the parts which hold the entity

@@ -1,25 +1,29 @@
 -- The rows of a set that passes rules 7 to 10, as entities: names, copies, residence sets.
 -- Assumes nothing.
-use Prim.Native.Nat.{ℕ, zero, suc, _+_, _*_, _^_, _<_, _≤_}
+use Prim.Native.Nat.{ℕ, suc, _^_, _<_, _≤_}
 use native.Mathlib.Omega.{arith}
-use mathlib.Core.Path.{_≡_, refl, sym, ap, _∙_, subst}
-use mathlib.Core.Bool.{Bool, true, false, not, _&&_, _||_}
+use mathlib.Core.Path.{_≡_, sym, ap, _∙_, subst}
+use mathlib.Core.Bool.{not, _||_}
 use mathlib.Core.Logic.{_⊎_, inl, inr}
-use mathlib.Core.List.{List, [], _∷_, map}
+use mathlib.Core.List.{List, [], map}
 use lib.ListN.{length, getD, length-map, List·getD-map}
 use lib.Dec.{T, eqb, ltb, leb, ltb→lt, leb→le, eqb→eq, T-not}
-use Rattle.laws.specs.Lists.{In, every, same, flat, ascending, upTo, member, indexOf}
+use Rattle.laws.specs.Lists.{In, every, same, ascending, upTo, member, indexOf}
 use Rattle.part_set.specs.Masks.{has, others}
 use Rattle.paper.specs.Image.{Row, Set, noRow, rowAt}
-use Rattle.paper.specs.Mesh.{Entity, Parts, nameOf, name, sameEnt, shapeOf, entOf, partsOf, holds, slotIn}
+use Rattle.paper.specs.Mesh.{Entity, name, sameEnt, entOf, partsOf, holds, slotIn}
 use Rattle.paper.specs.Sound.{valueFits, bodyFits, fieldsFit, nameOfRow, ordered, remoteSlot, twinAgrees, copiesAgree}
-use Rattle.laws.proofs.Tests.{split2, split4, split5, split8}
-use Rattle.laws.proofs.Members.{map-of-map, or-either, decide, getD-in, in-getD, in-map, map-in, getD-map, every-in, in-member, in-upTo, part-lt}
+use Rattle.laws.proofs.Tests.{split2, split4, split5, split8, or-either, decide, eq-eqb}
+use Rattle.laws.proofs.Agree.{map-of-map, getD-map}
+use Rattle.laws.proofs.Members.{getD-in, in-getD, in-map, map-in, every-in, part-lt}
+use Rattle.laws.proofs.Ranges.{in-upTo}
 use Rattle.demands.proofs.Entities.Names.{in-holds, holds-in, name-dim, name-number}
-use Rattle.demands.proofs.Entities.Sorted.{ascends-uniq}
-use Rattle.paper.proofs.Codec.{Wide, same-eq}
-use Rattle.laws.proofs.Ascending.{asc-adjacent, index-getD}
-use Rattle.part_set.proofs.MaskParts.{has-lt, others-in, in-others}
+use Rattle.laws.proofs.Keyed.{ascends-uniq}
+use Rattle.paper.proofs.Codec.{Wide}
+use Rattle.laws.proofs.Same.{same-eq}
+use Rattle.laws.proofs.Ascending.{asc-adjacent}
+use Rattle.laws.proofs.Places.{index-getD}
+use Rattle.part_set.proofs.MaskParts.{has-lt, in-others}
 use Rattle.demands.proofs.Sound.Facts.{Copied}
 
 -- the entity of a row
@@ -182,7 +186,7 @@ module _ (S : Set) (f : Copied S) where
       go (inr ne) =
           let m = getD (getD S p []) s noRow .mask in
           let l : q < length S = has-lt (length S) m q (row-fields p s h .mask) t in
-          let i = in-others m p q (omega (arith, f .few-parts)) t (λ e. T-not (eqb q p) ne (Rattle.laws.proofs.Members.eq-eqb q p e)) in
+          let i = in-others m p q (omega (arith, f .few-parts)) t (λ e. T-not (eqb q p) ne (eq-eqb q p e)) in
           let w = twin p s q h i in
           subst (λ (x : Entity). In x (getD (partsOf S) q [])) (sym (w .ent-same)) (in-part S q (remoteSlot (getD (getD S p []) s noRow) p q) (w .slot))
 
@@ -193,4 +197,4 @@ module _ (S : Set) (f : Copied S) where
       let held : T (holds (getD (partsOf S) q []) (name (ent S p s))) =
       subst (λ (k : ℕ). T (holds (getD (partsOf S) q []) k)) (sym n ∙ ap name (w .2)) (in-holds (getD (partsOf S) q []) g j) in
       let k : In e (getD (partsOf S) q []) = subst (λ (x : Entity). In x (getD (partsOf S) q [])) (sym (w .2)) (has-in p s q (w .1) (held-has p s q (w .1) held)) in
-      ascends-uniq (getD (partsOf S) q []) (names-ascend q) e g k j n
+      ascends-uniq name (getD (partsOf S) q []) (names-ascend q) e g k j n

@@ -1,29 +1,29 @@
 -- Sound to Fit: the parts of a sound set fit.
 -- Assumes nothing.
-use Prim.Native.Nat.{ℕ, zero, suc, _+_, _*_, _^_, _<_, _≤_}
+use Prim.Native.Nat.{ℕ, zero, suc, _^_, _<_, _≤_}
 use native.Mathlib.Omega.{arith}
-use mathlib.Core.Path.{_≡_, refl, sym, ap, ap₂, _∙_, subst}
-use mathlib.Core.Bool.{Bool, true, false, not, _&&_, _||_}
+use mathlib.Core.Path.{_≡_, refl, sym, ap, _∙_, subst}
+use mathlib.Core.Bool.{Bool, _&&_}
 use mathlib.Core.Logic.{_⊎_, inl, inr}
 use mathlib.Core.List.{List, [], _∷_, map}
 use lib.ListN.{length, getD, length-map}
-use lib.Dec.{T, eqb, ltb, leb, ltb→lt, leb→le, eqb→eq}
+use lib.Dec.{T, eqb, ltb, ltb→lt, eqb→eq}
 use Rattle.laws.specs.Lists.{In, every, some?, keep, flat, pairwise, ascending}
 use Rattle.field.specs.Bytes.{words, longs}
 use Rattle.part_set.specs.Masks.{has, partsIn, count, maskOf}
 use Rattle.paper.specs.Image.{Row, Set, noRow, rowAt}
-use Rattle.paper.specs.Mesh.{Entity, Parts, nameOf, name, bounds, isObject, slotsOf, shapeOf, entOf, partsOf, holds, simplex}
-use Rattle.paper.specs.Sound.{finite, bodyFits, nameOfRow, slotsStand, boundaryStands, rowsAbove, residence, residesWell}
+use Rattle.paper.specs.Mesh.{Entity, nameOf, name, bounds, isObject, slotsOf, shapeOf, entOf, partsOf, holds, simplex}
+use Rattle.paper.specs.Sound.{finite, bodyFits, slotsStand, boundaryStands, rowsAbove, residence, residesWell}
 use Rattle.paper.specs.Placement.{shapeFits}
-use Rattle.laws.proofs.Tests.{split2, both}
-use Rattle.laws.proofs.Members.{decide, getD-in, in-getD, keep-in, in-keep, map-in, every-in, in-every, some-in, in-flat, flat-in, part-lt, eq-eqb}
-use Rattle.demands.proofs.Entities.Names.{holds-in, in-holds, flat-map-in, in-flat-map, not-object, object-or}
+use Rattle.laws.proofs.Tests.{split2, both, eq-eqb}
+use Rattle.laws.proofs.Members.{getD-in, in-getD, keep-in, in-keep, map-in, every-in, in-every, some-in, in-flat, flat-in, part-lt, flat-map-in, in-flat-map}
+use Rattle.demands.proofs.Entities.Names.{in-holds, not-object, object-or}
 use Rattle.part_set.proofs.MaskBits.{has-maskOf}
 use Rattle.laws.proofs.Ascending.{asc-map, asc-getD, only-one}
 use Rattle.part_set.proofs.MaskParts.{has-lt, in-partsIn}
 use Rattle.paper.proofs.Codec.{length-words}
 use Rattle.demands.proofs.Rows.Bodies.{length-longs, longs-small}
-use Rattle.demands.proofs.Entities.Closed.{EntOk, FacesOk, of-faces}
+use Rattle.demands.proofs.Entities.Closed.{EntOk, of-faces}
 use Rattle.demands.proofs.Fit.Record.{Fit}
 use Rattle.demands.proofs.Sound.Facts.{Copied, Sound}
 use Rattle.demands.proofs.Sound.Rows.{ent, parts-at, parts-count, part-in, in-part, name-at, names-count, row-fields, row-wide, number-lt, names-ascend, held-has, has-in, agree}

@@ -1,35 +1,29 @@
 -- Demand 3 in the words of the paper: what a history of migrations, refused ones included, leaves.
 -- Assumes nothing.
-use Prim.Native.Nat.{ℕ, zero, suc, _<_, _≤_}
-use native.Mathlib.Omega.{arith}
-use mathlib.Core.Path.{_≡_, refl, sym, ap, _∙_, subst}
+use Prim.Native.Nat.{ℕ, zero, suc, _<_}
+use mathlib.Core.Path.{_≡_, refl, sym, _∙_, subst}
 use mathlib.Core.Logic.{_⊎_, inl, inr}
-use mathlib.Core.List.{List, [], _∷_, map}
-use lib.ListN.{length, getD, drop}
+use mathlib.Core.List.{List, []}
+use lib.ListN.{length, getD}
 use lib.Dec.{T}
 use lib.Pow.{areBytes}
 use Rattle.laws.specs.Lists.{In, flat}
 use Rattle.part_set.specs.Masks.{others}
-use Rattle.paper.specs.Image.{Row, Set, noRow}
+use Rattle.paper.specs.Image.{Set, noRow}
 use Rattle.paper.specs.Mesh.{Entity, Parts, name, bounds, isObject, partsOf, meshOf}
 use Rattle.paper.specs.Sound.{remoteSlot}
 use Rattle.paper.specs.Placement.{Placement, objects, placeIn, placesOf}
 use Rattle.demands.specs.History.{Ask, history, lastPlaces}
-use Rattle.demands.proofs.Entities.Names.{bounds-in, vertex-bounds, not-object, in-holds, holds-in}
-use Rattle.demands.proofs.Entities.Closed.{Closed}
+use Rattle.demands.proofs.Entities.Names.{bounds-in, vertex-bounds}
 use Rattle.demands.proofs.Mesh.Spread.{in-objects}
 use Rattle.demands.proofs.Fit.Record.{Fit}
-use Rattle.demands.proofs.Fit.ToMesh.{in-mesh, mesh-in, found, in-found, object-found, part-closed, mesh-object}
+use Rattle.demands.proofs.Fit.ToMesh.{mesh-in, found, in-found, object-found, part-closed, mesh-object}
 use Rattle.demands.proofs.Theorems.Statements.{Accepts, mesh, places}
-use Rattle.demands.proofs.Sound.Facts.{Sound, sound-inv}
-use Rattle.demands.proofs.Sound.Rows.{ent, Twin, twin}
+use Rattle.demands.proofs.Sound.Facts.{sound-inv}
+use Rattle.demands.proofs.Sound.Rows.{ent, twin}
 use Rattle.demands.proofs.Sound.ToFit.{sound-fit}
-use Rattle.demands.proofs.Theorems.Moves.{Now, begin, keeps}
-
-map-at : {A : Type 0} (f g : A → ℕ) (xs : List A) → map f xs ≡ map g xs → (a : A) → In a xs → f a ≡ g a
-map-at f g [] e a i = absurd i
-map-at f g (x ∷ xs) e a (inl p) = ap f p ∙ ap (λ (l : List ℕ). getD l 0 0) e ∙ ap g (sym p)
-map-at f g (x ∷ xs) e a (inr i) = map-at f g xs (ap (drop 1) e) a i
+use Rattle.demands.proofs.Theorems.Moves.{begin, keeps}
+use Rattle.laws.proofs.Agree.{map-at}
 
 -- ---- where entities are, in parts that fit
 

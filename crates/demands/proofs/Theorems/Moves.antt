@@ -10,22 +10,23 @@ use lib.ListN.{length, getD, drop, length-map}
 use lib.Seq.{ext-getD}
 use lib.Dec.{T, ltb, eqb, leb→le}
 use lib.Pow.{areBytes}
-use Rattle.laws.specs.Lists.{In, every, ascending, upTo, firstBad}
+use Rattle.laws.specs.Lists.{In, every, upTo, firstBad}
 use Rattle.paper.specs.Outcome.{Outcome, refused, accepted, _>>=_, _>>_}
 use Rattle.paper.specs.Image.{Set, imageOf, rowTotal}
 use Rattle.paper.specs.Mesh.{Entity, Parts, name, entOf, partsOf, meshOf}
-use Rattle.paper.specs.Sound.{soundOf, maxImage}
+use Rattle.paper.specs.Sound.{maxImage}
 use Rattle.paper.specs.Placement.{Placement, objects, spread, rowsFor, placeIn, placesOf, imageFor, WellPlaced}
 use Rattle.paper.specs.Move.{entryName, entryPart, wholeEntries, allEntries, destOf, moved, Migrated, migrated, sizeSet, migrateSet, migrateOf}
 use Rattle.demands.specs.History.{Ask, answer, imageAfter, history, placeAfter, lastPlaces}
-use Rattle.demands.proofs.Theorems.Statements.{Accepts, mesh, places, Canonical, Holds}
+use Rattle.demands.proofs.Theorems.Statements.{Accepts, mesh, places, Holds}
 use Rattle.demands.proofs.Theorems.T1.{theorem-1}
 use Rattle.demands.proofs.Theorems.T2T3.{theorem-2, theorem-3}
 use Rattle.laws.proofs.Tests.{and-l, and-r, both}
 use Rattle.paper.proofs.Outcomes.{accepted-inj, bind-inv, then-inv, must-inv}
 use Rattle.demands.proofs.Mesh.Places.{spread-same}
-use Rattle.demands.proofs.Entities.Ascending.{ascending-ext}
-use Rattle.demands.proofs.Rows.Entries.{bad-lt, entries-inv}
+use Rattle.laws.proofs.Keyed.{ascending-ext}
+use Rattle.laws.proofs.FirstBad.{bad-lt}
+use Rattle.demands.proofs.Rows.Entries.{entries-inv}
 
 -- ---- a list of destinations, taken object by object
 
@@ -95,7 +96,7 @@ unfolding partsOf
 same-rows b b′ S S′ y y′ a a′ n f g =
     same-parts b b′ S S′ y y′ a a′
     (ext-getD [] (partsOf S) (partsOf S′) (length-map S (λ rows. map (entOf rows) rows) ∙ n ∙ sym (length-map S′ (λ rows. map (entOf rows) rows)))
-    (λ p h. ascending-ext (getD (partsOf S) p []) (getD (partsOf S′) p []) (theorem-1 b S y a .ascends p) (theorem-1 b′ S′ y′ a′ .ascends p) (f p) (g p)))
+    (λ p h. ascending-ext name (getD (partsOf S) p []) (getD (partsOf S′) p []) (theorem-1 b S y a .ascends p) (theorem-1 b′ S′ y′ a′ .ascends p) (f p) (g p)))
 
 -- and from the mesh and the placement of its objects
 pub same-places : (b b′ : List ℕ) (S S′ : Set) → T (areBytes b) → T (areBytes b′) → Accepts b S → Accepts b′ S′

@@ -2,16 +2,14 @@
 -- Assumes nothing.
 use Prim.Native.Nat.{ℕ, _^_, _<_, _≤_}
 use native.Mathlib.Omega.{arith}
-use mathlib.Core.Path.{_≡_, refl, sym, ap, _∙_, subst}
-use mathlib.Core.List.{List, []}
+use mathlib.Core.Path.{_∙_, subst}
+use mathlib.Core.List.{[]}
 use lib.ListN.{length, getD}
-use lib.Dec.{T}
-use lib.Pow.{areBytes}
 use Rattle.paper.specs.Image.{Set, imageOf}
-use Rattle.paper.specs.Mesh.{Entity, Parts}
+use Rattle.paper.specs.Mesh.{Parts}
 use Rattle.paper.specs.Sound.{maxImage}
-use Rattle.paper.specs.Placement.{Placement, spread, rowsFor, imageFor, WellPlaced}
-use Rattle.demands.proofs.Theorems.Statements.{T2, T3, Holds, Accepts}
+use Rattle.paper.specs.Placement.{spread, rowsFor, imageFor}
+use Rattle.demands.proofs.Theorems.Statements.{T2, T3}
 use Rattle.demands.proofs.Rows.Few.{rows-few}
 use Rattle.demands.proofs.Fit.Record.{Fit}
 use Rattle.demands.proofs.Mesh.ToFit.{spread-fit, spread-mesh, spread-places}
