@@ -2,4 +2,6 @@
 pub mod Names
 pub mod Sorted
 pub mod Closed
+pub mod Fits
 pub mod Closures
+pub mod Owners

@@ -1,5 +1,6 @@
 -- Parts that fit: the one record between sets and meshes, and the arrows from it.
 pub mod Record
+pub mod Held
 pub mod Rows
 pub mod Fields
 pub mod Order

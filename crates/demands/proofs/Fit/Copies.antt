@@ -18,7 +18,7 @@ use Rattle.laws.proofs.Tests.{both, join4, join5, or-l, or-r, decide, eq-eqb}
 use Rattle.laws.proofs.Agree.{map-of-map}
 use Rattle.laws.proofs.Members.{in-every, getD-in}
 use Rattle.laws.proofs.Ranges.{upTo-in}
-use Rattle.demands.proofs.Entities.Names.{holds-in, in-holds}
+use Rattle.demands.proofs.Entities.Names.{in-holds}
 use Rattle.laws.proofs.Places.{read-at, index-getD}
 use Rattle.part_set.proofs.MaskParts.{others-in, in-others, others-ascends}
 use Rattle.laws.proofs.Same.{same-refl}
@@ -27,6 +27,7 @@ use Rattle.demands.proofs.Fit.Record.{Fit}
 use Rattle.demands.proofs.Rows.Made.{rows-count, rows-part}
 use Rattle.demands.proofs.Fit.Rows.{in-rows, row-at, ent-back, has-residence, residence-holds, holds-residence}
 use Rattle.demands.proofs.Fit.Fields.{part-small}
+use Rattle.demands.proofs.Fit.Held.{in-held}
 
 same-self : (e : Entity) → T (sameEnt e e)
 unfolding sameEnt
@@ -46,11 +47,7 @@ unfolding rowFor
 names-of ps q = ap (map nameOfRow) (rows-part ps q) ∙ map-of-map nameOfRow (rowFor ps q) (getD ps q [])
 
 module _ (ps : Parts) (F : Fit ps) (few : (p : ℕ) → length (getD ps p []) < 2 ^ 32) where
-  -- what a part holds by name is the entity itself
-  pub in-held : (p q : ℕ) (e : Entity) → In e (getD ps p []) → T (holds (getD ps q []) (name e)) → In e (getD ps q [])
-  in-held p q e i t = let w = holds-in (getD ps q []) (name e) t in subst (λ (x : Entity). In x (getD ps q [])) (sym (F .agree p q e (w .0) i (w .1) (w .2))) (w .1)
-
-  -- and stands at its slot
+  -- an entity stands at its slot
   slot-ent : (q : ℕ) (e : Entity) → In e (getD ps q []) → getD (getD ps q []) (slotIn (getD ps q []) (name e)) noEnt ≡ e
   slot-ent q e i =
       let es = getD ps q [] in
@@ -91,7 +88,7 @@ module _ (ps : Parts) (F : Fit ps) (few : (p : ℕ) → length (getD ps p []) < 
       let w = getD (getD S q []) t noRow in
       let o = others-in m p q iq in
       let v = residence-holds ps k q (o .1) in
-      let jq : In e (getD ps q []) = in-held p q e ip (v .1) in
+      let jq : In e (getD ps q []) = in-held ps F p q e ip (v .1) in
       let et : t ≡ slotIn (getD ps q []) k = ap (λ (x : Row). remoteSlot x p q) er ∙ remote-is ps p q e iq in
       let ew : w ≡ rowFor ps q e = ap (λ (i : ℕ). getD (getD S q []) i noRow) et ∙ copy-at q e jq in
       let hp : In p (others m q) = in-others m q p (part-small ps F few p e ip) (holds-residence ps p e ip) (λ x. o .2 (sym x)) in

@@ -4,7 +4,7 @@ use Prim.Native.Nat.{ℕ, zero, suc, _+_, _-_, _*_, _/_, _%_, _^_, _<_, _≤_}
 use native.Mathlib.Nat.{mod-lt}
 use native.Mathlib.Omega.{arith}
 use mathlib.Core.Path.{_≡_, refl, sym, ap, _∙_, subst}
-use mathlib.Core.Bool.{Bool, true, false, cond, _&&_}
+use mathlib.Core.Bool.{true, _&&_}
 use mathlib.Core.Logic.{inl, inr}
 use mathlib.Core.List.{List, [], _∷_, _++_, map}
 use lib.ListN.{length, getD, replicate, length-map, length-append, length-replicate}
@@ -15,7 +15,7 @@ use Rattle.laws.specs.Lists.{In, flat, every}
 use Rattle.field.specs.Bytes.{bytesOf}
 use Rattle.part_set.specs.Masks.{has, partsIn, others}
 use Rattle.paper.specs.Image.{rowBytes}
-use Rattle.paper.specs.Mesh.{Entity, Parts, nameOf, name, slotIn, objectsIn, poorest, ownerOf}
+use Rattle.paper.specs.Mesh.{Entity, Parts, nameOf, name, slotIn, ownerOf}
 use Rattle.paper.specs.Sound.{finite, valueFits, bodyFits, fieldsFit}
 use Rattle.paper.specs.Placement.{residenceIn, bodyIn, rowFor}
 use Rattle.laws.proofs.Tests.{both, and-l, and-r, join8}
@@ -29,6 +29,7 @@ use Rattle.paper.proofs.Remotes.{remotes-others}
 use Rattle.demands.proofs.Fit.Record.{Fit}
 use Rattle.demands.proofs.Fit.Rows.{coords-at, coords-back, faces-at, residence-lt, residence-holds, holds-residence}
 use Rattle.laws.proofs.Places.{index-le}
+use Rattle.demands.proofs.Entities.Owners.{owner-in}
 
 -- ---- bytes
 
@@ -67,22 +68,6 @@ body-bytes es (suc d) shape =
     (bytes-flat (λ k. bytesOf 4 (slotIn es (nameOf d k))) shape (λ k i. bytes-of 4 (slotIn es (nameOf d k)))) (bytes-zeros (24 - 4 * (d + 2)))
 
 -- ---- the owner is one of the parts
-
-poorest-in : (c : ℕ → ℕ) (p : ℕ) (qs : List ℕ) → In (poorest c p qs) (p ∷ qs)
-unfolding poorest
-poorest-in c p [] = inl refl
-poorest-in c p (q ∷ qs) = go (ltb (c q) (c p)) (poorest-in c (cond (ltb (c q) (c p)) q p) qs)
-  where
-    go : (b : Bool) → In (poorest c (cond (ltb (c q) (c p)) q p) qs) (cond b q p ∷ qs) → In (poorest c (cond (ltb (c q) (c p)) q p) qs) (p ∷ q ∷ qs)
-    go true (inl e) = inr (inl e)
-    go true (inr i) = inr (inr i)
-    go false (inl e) = inl e
-    go false (inr i) = inr (inr i)
-
-owner-in : (ps : Parts) (qs : List ℕ) (p : ℕ) → In p qs → In (ownerOf ps qs) qs
-unfolding ownerOf
-owner-in ps [] p i = absurd i
-owner-in ps (q ∷ qs) p i = poorest-in (objectsIn ps) q qs
 
 slot-le : (es : List Entity) (k : ℕ) → slotIn es k ≤ length es
 unfolding slotIn

@@ -1,6 +1,6 @@
 -- Rule 11 of the rows that fitting parts make: an object is in one part, any other entity where what it bounds is.
 -- Assumes nothing.
-use Prim.Native.Nat.{ℕ, zero, suc, _^_, _<_}
+use Prim.Native.Nat.{ℕ, _^_, _<_}
 use mathlib.Core.Path.{_≡_, refl, sym, ap, _∙_, subst, subst₂}
 use mathlib.Core.Bool.{Bool}
 use mathlib.Core.Logic.{_⊎_, inl, inr}
@@ -10,23 +10,23 @@ use lib.Dec.{T}
 use Rattle.laws.specs.Lists.{In, some?, flat}
 use Rattle.part_set.specs.Masks.{has, count, partsIn, maskOf}
 use Rattle.paper.specs.Image.{Row, noRow, rowAt}
-use Rattle.paper.specs.Mesh.{Entity, Parts, name, noEnt, bounds, isObject, holds}
+use Rattle.paper.specs.Mesh.{Entity, Parts, name, noEnt, bounds, isObject}
 use Rattle.paper.specs.Sound.{nameOfRow, rowsAbove, residence, residesWell}
 use Rattle.paper.specs.Placement.{residenceIn, rowFor, rowsFor}
-use Rattle.laws.proofs.Tests.{iff-eq, eq-eqb}
+use Rattle.laws.proofs.Tests.{eq-eqb}
 use Rattle.laws.proofs.Members.{getD-in, in-getD, in-flat, some-in, in-some}
-use Rattle.demands.proofs.Entities.Names.{bounds-in, vertex-bounds, not-object}
-use Rattle.part_set.proofs.MaskBits.{has-maskOf, mask-ext}
+use Rattle.demands.proofs.Entities.Names.{not-object}
+use Rattle.part_set.proofs.MaskBits.{maskOf-is}
 use Rattle.laws.proofs.Ascending.{one-only}
-use Rattle.part_set.proofs.MaskParts.{maskOf-lt, partsIn-in, partsIn-ascends}
-use Rattle.demands.proofs.Entities.Closed.{fits-closed}
+use Rattle.part_set.proofs.MaskParts.{partsIn-in, partsIn-ascends}
 use Rattle.demands.proofs.Fit.Record.{Fit}
 use Rattle.demands.proofs.Rows.Made.{rows-count}
 use Rattle.demands.proofs.Sound.Rows.{ent}
 use Rattle.demands.proofs.Sound.ToFit.{above-in, in-above}
 use Rattle.demands.proofs.Fit.Rows.{in-rows, row-at, ent-at, residence-lt, has-residence, residence-holds, holds-residence}
 use Rattle.demands.proofs.Fit.Fields.{own-bit}
-use Rattle.demands.proofs.Fit.Copies.{in-held}
+use Rattle.demands.proofs.Fit.Held.{in-held, part-closed}
+use Rattle.demands.proofs.Entities.Closed.{closed-down}
 
 pub some-res : (n m : ℕ) (rs : List Row) (a : Row) → In a rs → m ≡ maskOf n (λ q. some? (λ a. has (a .mask) q) rs) → T (residence n m rs)
 unfolding residence
@@ -76,37 +76,23 @@ module _ (ps : Parts) (F : Fit ps) (few : (p : ℕ) → length (getD ps p []) < 
         mask-at q t (w .1) ∙ ap (λ (x : Entity). residenceIn ps (name x)) (sym (w .2)),
       )
 
-  -- a part that holds an entity holds its boundary
-  down : (q k : ℕ) (g : Entity) → In g (getD ps q []) → T (bounds k g) → T (holds (getD ps q []) k)
-  down q k g i b = go (g .dim) refl
-    where
-      go : (d : ℕ) → g .dim ≡ d → T (holds (getD ps q []) k)
-      go zero e = absurd (vertex-bounds k g e b)
-      go (suc d) e =
-          let w = bounds-in d k g e b in
-          subst (λ (z : ℕ). T (holds (getD ps q []) z)) (sym (w .2)) (fits-closed (getD ps q []) (F .fits q) .shape g d (w .0) i e (w .1) .1)
-
   one-part : (p : ℕ) (e : Entity) → In e (getD ps p []) → T (isObject (flat ps) (name e)) → count (residenceIn ps (name e)) ≡ 1
   unfolding count
   one-part p e i t =
       let m = residenceIn ps (name e) in
       one-only (partsIn m) (partsIn-ascends m) p (own-bit ps F few p e i) (λ q j.
       let v = residence-holds ps (name e) q (partsIn-in m q j .1) in
-      F .once q p e (in-held ps F few p q e i (v .1)) i t)
+      F .once q p e (in-held ps F p q e i (v .1)) i t)
 
   -- the set of what is not an object is the union of the sets above it
   union : (p : ℕ) (e g : Entity) → In e (getD ps p []) → In g (getD ps p []) → T (bounds (name e) g)
       → residenceIn ps (name e) ≡ maskOf (length ps) (λ q. some? (λ a. has (a .mask) q) (rowsAbove (rowsFor ps) (name e)))
   union p e g i j b =
-      let k = name e in
-      let n = length ps in
-      let rs = rowsAbove (rowsFor ps) k in
-      let f : ℕ → Bool = λ q. some? (λ a. has (a .mask) q) rs in
-      mask-ext n (residenceIn ps k) (maskOf n f) (residence-lt ps k) (maskOf-lt n f) (λ q h.
-      iff-eq (has (residenceIn ps k) q) (f q) (to q) (fro q) ∙ sym (has-maskOf n q f h))
+      let f : ℕ → Bool = λ q. some? (λ a. has (a .mask) q) (rowsAbove (rowsFor ps) (name e)) in
+      sym (maskOf-is (length ps) (residenceIn ps (name e)) f (residence-lt ps (name e)) fro to)
     where
       to : (q : ℕ) → T (has (residenceIn ps (name e)) q) → T (some? (λ a. has (a .mask) q) (rowsAbove (rowsFor ps) (name e)))
-      to q t = go (F .resides q e (in-held ps F few p q e i (residence-holds ps (name e) q t .1)))
+      to q t = go (F .resides q e (in-held ps F p q e i (residence-holds ps (name e) q t .1)))
         where
           go : T (isObject (flat ps) (name e)) ⊎ ((x : Entity) × In x (getD ps q []) × T (bounds (name e) x)) → T (some? (λ a. has (a .mask) q) (rowsAbove (rowsFor ps) (name e)))
           go (inl o) = absurd (not-object (flat ps) (name e) g (in-flat ps p g j) b o)
@@ -119,8 +105,8 @@ module _ (ps : Parts) (F : Fit ps) (few : (p : ℕ) → length (getD ps p []) < 
           let w = some-in (λ a. has (a .mask) q) (rowsAbove (rowsFor ps) (name e)) t in
           let a = above-is (name e) (w .0) (w .1) in
           let v = residence-holds ps (name (a .above)) q (subst (λ (m : ℕ). T (has m q)) (a .mask) (w .2)) in
-          let x : In (a .above) (getD ps q []) = in-held ps F few (a .part) q (a .above) (a .there) (v .1) in
-          subst T (sym (has-residence ps (name e) q (v .0))) (down q (name e) (a .above) x (a .bounded))
+          let x : In (a .above) (getD ps q []) = in-held ps F (a .part) q (a .above) (a .there) (v .1) in
+          subst T (sym (has-residence ps (name e) q (v .0))) (closed-down (getD ps q []) (part-closed ps F q) (name e) (a .above) x (a .bounded))
 
   resides-ent : (p : ℕ) (e : Entity) → In e (getD ps p []) → T (residence (length ps) (residenceIn ps (name e)) (rowsAbove (rowsFor ps) (name e)))
   resides-ent p e i = go (F .resides p e i)

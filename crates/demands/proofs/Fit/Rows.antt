@@ -23,7 +23,7 @@ use Rattle.part_set.proofs.MaskBits.{has-maskOf}
 use Rattle.part_set.proofs.MaskParts.{maskOf-lt, has-lt}
 use Rattle.demands.proofs.Rows.Bodies.{longs-back}
 use Rattle.demands.proofs.Rows.ReadBack.{standing, shape-back}
-use Rattle.demands.proofs.Entities.Closed.{FacesOk, faces-of}
+use Rattle.demands.proofs.Entities.Fits.{FacesOk, faces-of}
 use Rattle.demands.proofs.Rows.Made.{rows-count, rows-part}
 use Rattle.demands.proofs.Sound.Rows.{ent, parts-at, parts-count}
 use Rattle.demands.proofs.Fit.Record.{Fit}

@@ -9,25 +9,24 @@ use lib.ListN.{length, getD}
 use lib.Seq.{ext-getD}
 use lib.Dec.{T, ltb, lt→ltb, le→leb}
 use Rattle.laws.specs.Lists.{In, every, flat, ascending, member}
-use Rattle.paper.specs.Mesh.{Entity, Parts, name, bounds, isObject, holds, meshOf}
+use Rattle.paper.specs.Mesh.{Entity, Parts, name, bounds, isObject, meshOf}
 use Rattle.paper.specs.Placement.{objects, closures, spread, placeIn, placesOf, entFits, meshFits, WellPlaced}
 use Rattle.laws.proofs.Tests.{both}
 use Rattle.laws.proofs.Keyed.{ascending-ext, ascends-uniq, keep-ascends}
 use Rattle.laws.proofs.Members.{in-flat, flat-in, in-every, map-in, part-lt}
-use Rattle.demands.proofs.Entities.Names.{Uniq, holds-in, in-holds, object-same}
+use Rattle.demands.proofs.Entities.Names.{Uniq, in-holds, object-same}
 use Rattle.demands.proofs.Entities.Sorted.{sort-in, in-sort, sort-ascends}
-use Rattle.demands.proofs.Entities.Closed.{Closed, EntOk, fits-of, fits-closed, ok-up}
+use Rattle.demands.proofs.Entities.Closed.{Closed}
+use Rattle.demands.proofs.Entities.Fits.{EntOk, fits-of, fits-closed, ok-up}
 use Rattle.demands.proofs.Entities.Closures.{closure-part, in-closure}
 use Rattle.demands.proofs.Mesh.Spread.{Under, objects-in, spread-length, spread-part, spread-in, in-spread, place-found}
 use Rattle.demands.proofs.Fit.Record.{Fit}
+use Rattle.demands.proofs.Fit.Held.{flat-uniq, in-held, part-closed, part-uniq}
 
 module _ (ps : Parts) (F : Fit ps) where
-  flat-uniq : Uniq (flat ps)
-  flat-uniq e f i j q = let a = flat-in ps e i in let b = flat-in ps f j in F .agree (a .0) (b .0) e f (a .2) (b .2) q
-
   pub in-mesh : (p : ℕ) (e : Entity) → In e (getD ps p []) → In e (meshOf ps)
   unfolding meshOf
-  in-mesh p e i = in-sort (flat ps) flat-uniq e (in-flat ps p e i)
+  in-mesh p e i = in-sort (flat ps) (flat-uniq ps F) e (in-flat ps p e i)
 
   pub mesh-in : (e : Entity) → In e (meshOf ps) → (p : ℕ) × (p < length ps) × In e (getD ps p [])
   unfolding meshOf
@@ -40,16 +39,10 @@ module _ (ps : Parts) (F : Fit ps) where
   mesh-uniq : Uniq (meshOf ps)
   mesh-uniq = ascends-uniq name (meshOf ps) mesh-ascends
 
-  part-uniq : (p : ℕ) → Uniq (getD ps p [])
-  part-uniq p = ascends-uniq name (getD ps p []) (F .ascends p)
-
-  pub part-closed : (p : ℕ) → Closed (getD ps p [])
-  part-closed p = fits-closed (getD ps p []) (F .fits p)
-
   mesh-ok : (e : Entity) → In e (meshOf ps) → EntOk (meshOf ps) e
   mesh-ok e i =
       let w = mesh-in e i in
-      ok-up (getD ps (w .0) []) (meshOf ps) (part-closed (w .0)) (part-uniq (w .0)) mesh-uniq (in-mesh (w .0)) e (w .2) (F .fits (w .0) e (w .2))
+      ok-up (getD ps (w .0) []) (meshOf ps) (part-closed ps F (w .0)) (part-uniq ps F (w .0)) mesh-uniq (in-mesh (w .0)) e (w .2) (F .fits (w .0) e (w .2))
 
   mesh-closed : Closed (meshOf ps)
   mesh-closed = fits-closed (meshOf ps) mesh-ok
@@ -58,14 +51,9 @@ module _ (ps : Parts) (F : Fit ps) where
   mesh-object k =
       object-same (flat ps) (meshOf ps) k (λ e i. let w = flat-in ps e i in in-mesh (w .0) e (w .2)) (λ e i. let w = mesh-in e i in in-flat ps (w .0) e (w .2))
 
-  -- what is found in a part by its name is in that part
-  pub in-found : (p q : ℕ) (e : Entity) → In e (getD ps p []) → T (holds (getD ps q []) (name e)) → In e (getD ps q [])
-  in-found p q e i t =
-      let w = holds-in (getD ps q []) (name e) t in subst (λ (x : Entity). In x (getD ps q [])) (sym (F .agree p q e (w .0) i (w .1) (w .2))) (w .1)
-
   pub found : (p : ℕ) (e : Entity) → p < length ps → In e (getD ps p []) → (placeIn ps (name e) < length ps) × In e (getD ps (placeIn ps (name e)) [])
   found p e h i =
-      let w = place-found ps p (name e) h (in-holds (getD ps p []) e i) in (w .0, in-found p (placeIn ps (name e)) e i (w .1))
+      let w = place-found ps p (name e) h (in-holds (getD ps p []) e i) in (w .0, in-held ps F p (placeIn ps (name e)) e i (w .1))
 
   -- an object is found where it is
   pub object-found : (p : ℕ) (e : Entity) → In e (getD ps p []) → T (isObject (meshOf ps) (name e)) → placeIn ps (name e) ≡ p
@@ -89,8 +77,8 @@ module _ (ps : Parts) (F : Fit ps) where
       let w = mesh-in o (u .in-mesh) in
       let j : In o (getD ps p []) = subst (λ (q : ℕ). In o (getD ps q [])) (u .placed) (found (w .0) o (w .1) (w .2) .1) in
       let v = mesh-in e i in
-      in-found (v .0) p e (v .2)
-      (closure-part (meshOf ps) mesh-closed mesh-uniq (getD ps p []) (part-closed p) (in-mesh p) o (name e) j (u .covers))
+      in-held ps F (v .0) p e (v .2)
+      (closure-part (meshOf ps) mesh-closed mesh-uniq (getD ps p []) (part-closed ps F p) (in-mesh p) o (name e) j (u .covers))
 
   pub is-spread : ps ≡ spread (length ps) (meshOf ps) (placeIn ps)
   is-spread =

@@ -1,6 +1,6 @@
 -- Rule 11, the objects and their counts by what is on a boundary in its own part: for code that keeps one bit a row.
 -- Assumes nothing.
-use Prim.Native.Nat.{ℕ, zero, suc, _^_, _<_}
+use Prim.Native.Nat.{ℕ, _^_, _<_}
 use native.Mathlib.Omega.{arith}
 use mathlib.Core.Path.{_≡_, refl, sym, ap, _∙_, subst}
 use mathlib.Core.Bool.{Bool, not, _||_}
@@ -15,11 +15,12 @@ use Rattle.paper.specs.Mesh.{Entity, Parts, name, bounds, isObject, holds, entO
 use Rattle.paper.specs.Sound.{nameOfRow, rowsAbove, residence, residesWell}
 use Rattle.laws.proofs.Tests.{or-either, or-l, or-r, iff-eq}
 use Rattle.laws.proofs.Members.{getD-in, in-getD, every-in, in-every, some-in, in-some, in-flat}
-use Rattle.demands.proofs.Entities.Names.{bounds-in, vertex-bounds, not-object}
-use Rattle.part_set.proofs.MaskBits.{has-maskOf, mask-ext}
+use Rattle.demands.proofs.Entities.Names.{not-object}
+use Rattle.part_set.proofs.MaskBits.{has-maskOf, maskOf-is}
 use Rattle.laws.proofs.Ascending.{only-one}
 use Rattle.part_set.proofs.MaskParts.{has-lt, maskOf-lt, partsIn-in, in-partsIn}
-use Rattle.demands.proofs.Entities.Closed.{Closed, EntOk, fits-closed}
+use Rattle.demands.proofs.Entities.Closed.{Closed, closed-down}
+use Rattle.demands.proofs.Entities.Fits.{EntOk, fits-closed}
 use Rattle.demands.proofs.Fit.Record.{Fit}
 use Rattle.demands.proofs.Sound.Facts.{Copied}
 use Rattle.demands.proofs.Sound.Rows.{ent, part-in, in-part, row-fields, held-has, has-in}
@@ -52,13 +53,7 @@ module _ (S : Set) (f : Copied S) where
 
   -- what a row names on its boundary is held by the row's part
   down : (q t k : ℕ) → t < length (getD S q []) → T (bounds k (ent S q t)) → T (holds (getD (partsOf S) q []) k)
-  down q t k h b = go (ent S q t .dim) refl
-    where
-      go : (d : ℕ) → ent S q t .dim ≡ d → T (holds (getD (partsOf S) q []) k)
-      go zero e = absurd (vertex-bounds k (ent S q t) e b)
-      go (suc d) e =
-          let w = bounds-in d k (ent S q t) e b in
-          subst (λ (z : ℕ). T (holds (getD (partsOf S) q []) z)) (sym (w .2)) (part-closed q .shape (ent S q t) d (w .0) (in-part S q t h) e (w .1) .1)
+  down q t k h b = closed-down (getD (partsOf S) q []) (part-closed q) k (ent S q t) (in-part S q t h) b
 
   module _ (p s : ℕ) (h : s < length (getD S p [])) where
     k : ℕ
@@ -134,11 +129,9 @@ module _ (S : Set) (f : Copied S) where
         let w = covers-row p (every-in (λ q. covered S q k) (partsIn m) t p own-in) in absurd (subst (λ (rs : List Row). In (w .0) rs) e (w .1))
     fro (r ∷ rs) e t =
         let i : In r (rowsAbove S k) = subst (λ (x : List Row). In r x) (sym e) (inl refl) in
-        let n = length S in
         let g : ℕ → Bool = λ q. some? (λ a. has (a .mask) q) (rowsAbove S k) in
-        some-res n m (rowsAbove S k) r i (mask-ext n m (maskOf n g) small (maskOf-lt n g) (λ q l.
-        iff-eq (has m q) (g q) (union r i t q) (λ y. let w = some-in (λ a. has (a .mask) q) (rowsAbove S k) y in above-spreads (w .0) (w .1) q (w .2) .0)
-        ∙ sym (has-maskOf n q g l)))
+        some-res (length S) m (rowsAbove S k) r i (sym (maskOf-is (length S) m g small
+        (λ q y. let w = some-in (λ a. has (a .mask) q) (rowsAbove S k) y in above-spreads (w .0) (w .1) q (w .2) .0) (union r i t)))
       where
         small : m < 2 ^ length S
         small = unfold m in row-fields S f p s h .mask

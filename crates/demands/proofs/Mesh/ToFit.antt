@@ -15,12 +15,14 @@ use Rattle.laws.proofs.Members.{in-flat, flat-in, every-in, in-map}
 use Rattle.laws.proofs.Agree.{map-same}
 use Rattle.demands.proofs.Entities.Names.{Uniq, holds-in, in-holds, in-bounds, object-same, object-or, not-object}
 use Rattle.demands.proofs.Entities.Sorted.{sort-in, in-sort, sort-ascends}
-use Rattle.demands.proofs.Entities.Closed.{Closed, EntOk, ok-of, fits-closed, ok-down}
+use Rattle.demands.proofs.Entities.Closed.{Closed}
+use Rattle.demands.proofs.Entities.Fits.{EntOk, ok-of, fits-closed, ok-down}
 use Rattle.demands.proofs.Entities.Closures.{closureOf, closure-down, closure-top, in-closure}
 use Rattle.demands.proofs.Mesh.Spread.{Under, objects-in, in-objects, spread-length, spread-part, spread-in, in-spread, place-found}
 use Rattle.demands.proofs.Fit.Record.{Fit}
 use mathlib.Core.Bool.{not}
 use lib.Dec.{nltb→le}
+use Rattle.demands.proofs.Fit.Held.{flat-uniq}
 
 module _ (n : ℕ) (es : List Entity) (place : Placement) (W : WellPlaced n es place) where
   ascends : T (ascending (map name es))
@@ -133,13 +135,7 @@ module _ (n : ℕ) (es : List Entity) (place : Placement) (W : WellPlaced n es p
   spread-mesh =
       ascending-ext name (sortEnts (flat (spread n es place))) es (sort-ascends (flat (spread n es place))) ascends
       (λ e i. let w = flat-in (spread n es place) e (sort-in (flat (spread n es place)) e i) in inc (w .0) e (w .2))
-      (λ e i. let w = somewhere e i in in-sort (flat (spread n es place)) flat-uniq e (in-flat (spread n es place) (w .0) e (w .2)))
-    where
-      flat-uniq : Uniq (flat (spread n es place))
-      flat-uniq e f i j q =
-          let a = flat-in (spread n es place) e i in
-          let b = flat-in (spread n es place) f j in
-          uniq e f (inc (a .0) e (a .2)) (inc (b .0) f (b .2)) q
+      (λ e i. let w = somewhere e i in in-sort (flat (spread n es place)) (flat-uniq (spread n es place) spread-fit) e (in-flat (spread n es place) (w .0) e (w .2)))
 
   found-at : (e : Entity) → In e es → T (isObject es (name e)) → placeIn (spread n es place) (name e) ≡ place (name e)
   found-at e i t =

@@ -3,31 +3,29 @@
 use Prim.Native.Nat.{ℕ, zero, suc, _+_, _-_, _*_, _^_, _<_}
 use native.Mathlib.Omega.{arith}
 use mathlib.Core.Path.{_≡_, refl, sym, ap, _∙_, subst}
-use mathlib.Core.Bool.{Bool}
-use mathlib.Core.List.{List, [], _∷_, _++_, map}
+use mathlib.Core.List.{List, [], _++_, map}
 use lib.ListN.{length, getD, replicate}
 use lib.Seq.{ext-getD}
 use lib.Dec.{T, eqb→eq}
 use Rattle.laws.specs.Lists.{flat}
 use Rattle.field.specs.Bytes.{words, bytesOf}
-use Rattle.part_set.specs.Masks.{has, partsIn, others, maskOf}
+use Rattle.part_set.specs.Masks.{partsIn, others}
 use Rattle.paper.specs.Image.{Row, Set, noRow, rowAt}
 use Rattle.paper.specs.Mesh.{Entity, nameOf, name, slotsOf, shapeOf, entOf, partsOf, holds, slotIn, ownerOf}
 use Rattle.paper.specs.Sound.{bodyFits, remoteSlot, ownedWell}
 use Rattle.paper.specs.Placement.{residenceIn, bodyIn, rowFor, rowsFor}
-use Rattle.laws.proofs.Agree.{map-of-map, map-same}
-use Rattle.laws.proofs.Tests.{iff-eq}
+use Rattle.laws.proofs.Agree.{map-of-map, map-same, map-self}
 use Rattle.laws.proofs.Members.{in-getD}
 use Rattle.demands.proofs.Entities.Names.{in-holds}
-use Rattle.part_set.proofs.MaskBits.{has-maskOf, mask-ext}
+use Rattle.part_set.proofs.MaskBits.{maskOf-is}
 use Rattle.laws.proofs.Places.{read-places}
-use Rattle.part_set.proofs.MaskParts.{maskOf-lt, has-lt, others-ascends}
+use Rattle.part_set.proofs.MaskParts.{others-ascends}
 use Rattle.paper.proofs.Remotes.{remotes-others}
 use Rattle.demands.proofs.Rows.Bodies.{vertex-body, slots-body}
 use Rattle.demands.proofs.Rows.Made.{rows-count, rows-part}
 use Rattle.demands.proofs.Sound.Facts.{Sound}
-use Rattle.demands.proofs.Sound.Rows.{ent, parts-at, parts-count, row-fields, row-wide, slot-is, twin, held-has, has-in}
-use Rattle.demands.proofs.Sound.ToFit.{row-slots}
+use Rattle.demands.proofs.Sound.Rows.{ent, parts-at, parts-count, row-fields, row-wide, slot-is, twin, held-has, has-in, in-part}
+use Rattle.demands.proofs.Sound.ToFit.{row-slots, small-part}
 
 module _ (S : Set) (f : Sound S) where
   -- the residence set is that of the parts which hold the entity
@@ -36,15 +34,8 @@ module _ (S : Set) (f : Sound S) where
   mask-is p s h =
       let k = name (ent S p s) in
       let m = getD (getD S p []) s noRow .mask in
-      let n = length (partsOf S) in
-      let hold : ℕ → Bool = λ q. holds (getD (partsOf S) q []) k in
-      mask-ext n (maskOf n hold) m (maskOf-lt n hold) (subst (λ (z : ℕ). m < 2 ^ z) (sym (parts-count S)) (row-fields S (f .copied) p s h .mask))
-      (λ q l. has-maskOf n q hold l ∙ iff-eq (hold q) (has m q) (held-has S (f .copied) p s q h) (λ t. in-holds (getD (partsOf S) q []) (ent S p s) (has-in S (f .copied) p s q h t)))
-
-  small : (p s : ℕ) → s < length (getD S p []) → p < 64
-  small p s h =
-      let k = row-fields S (f .copied) p s h in
-      omega (arith, has-lt (length S) (getD (getD S p []) s noRow .mask) p (k .mask) (k .own), f .copied .few-parts)
+      maskOf-is (length (partsOf S)) m (λ q. holds (getD (partsOf S) q []) k) (subst (λ (z : ℕ). m < 2 ^ z) (sym (parts-count S)) (row-fields S (f .copied) p s h .mask))
+      (λ q. held-has S (f .copied) p s q h) (λ q t. in-holds (getD (partsOf S) q []) (ent S p s) (has-in S (f .copied) p s q h t))
 
   -- the remote slots are the places of the entity in the other parts
   slots-are : (p s : ℕ) → s < length (getD S p [])
@@ -58,7 +49,7 @@ module _ (S : Set) (f : Sound S) where
       (λ q i. let w = twin S (f .copied) p s q h i in
       ap (λ (e : Entity). slotIn (getD (partsOf S) q []) (name e)) (w .ent-same) ∙ slot-is S (f .copied) q (remoteSlot r p q) (w .slot))
       ∙ read-places os (r .slots) (others-ascends (r .mask) p)
-      (row-wide S (f .copied) p s h .row .slots ∙ sym (remotes-others (r .mask) p (small p s h) (row-fields S (f .copied) p s h .own)))
+      (row-wide S (f .copied) p s h .row .slots ∙ sym (remotes-others (r .mask) p (small-part S (f .copied) p (ent S p s) (in-part S p s h)) (row-fields S (f .copied) p s h .own)))
 
   -- the body is written from the shape
   body-is : (p s : ℕ) → s < length (getD S p []) → (d : ℕ) → getD (getD S p []) s noRow .dim ≡ d
@@ -110,12 +101,8 @@ module _ (S : Set) (f : Sound S) where
       let rows = getD S p [] in
       let same : getD (rowsFor (partsOf S)) p [] ≡ map (λ r. rowFor (partsOf S) p (entOf rows r)) rows =
       rows-part (partsOf S) p ∙ ap (map (rowFor (partsOf S) p)) (parts-at S p) ∙ map-of-map (rowFor (partsOf S) p) (entOf rows) rows in
-      sym (same ∙ map-same (λ r. rowFor (partsOf S) p (entOf rows r)) (λ r. r) rows
-      (λ r i. let w = in-getD rows r noRow i in ap (λ (x : Row). rowFor (partsOf S) p (entOf rows x)) (w .2) ∙ row-is p (w .0) (w .1) ∙ sym (w .2)) ∙ map-self rows)
-    where
-      map-self : (l : List Row) → map (λ r. r) l ≡ l
-      map-self [] = refl
-      map-self (x ∷ l) = ap (λ (r : List Row). x ∷ r) (map-self l)
+      sym (same ∙ map-self (λ r. rowFor (partsOf S) p (entOf rows r)) rows
+      (λ r i. let w = in-getD rows r noRow i in ap (λ (x : Row). rowFor (partsOf S) p (entOf rows x)) (w .2) ∙ row-is p (w .0) (w .1) ∙ sym (w .2)))
 
   pub sound-canon : S ≡ rowsFor (partsOf S)
   sound-canon = ext-getD [] S (rowsFor (partsOf S)) (sym (rows-count (partsOf S) ∙ parts-count S)) (λ p h. part-is p)

@@ -23,7 +23,7 @@ use Rattle.laws.proofs.Ascending.{asc-map, asc-getD, only-one}
 use Rattle.part_set.proofs.MaskParts.{has-lt, in-partsIn}
 use Rattle.paper.proofs.Codec.{length-words}
 use Rattle.demands.proofs.Rows.Bodies.{length-longs, longs-small}
-use Rattle.demands.proofs.Entities.Closed.{EntOk, of-faces}
+use Rattle.demands.proofs.Entities.Fits.{EntOk, of-faces}
 use Rattle.demands.proofs.Fit.Record.{Fit}
 use Rattle.demands.proofs.Sound.Facts.{Copied, Sound}
 use Rattle.demands.proofs.Sound.Rows.{ent, parts-at, parts-count, part-in, in-part, name-at, names-count, row-fields, row-wide, number-lt, names-ascend, held-has, has-in, agree}

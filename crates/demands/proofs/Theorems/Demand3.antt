@@ -17,7 +17,8 @@ use Rattle.demands.specs.History.{Ask, history, lastPlaces}
 use Rattle.demands.proofs.Entities.Names.{bounds-in, vertex-bounds}
 use Rattle.demands.proofs.Mesh.Spread.{in-objects}
 use Rattle.demands.proofs.Fit.Record.{Fit}
-use Rattle.demands.proofs.Fit.ToMesh.{mesh-in, found, in-found, object-found, part-closed, mesh-object}
+use Rattle.demands.proofs.Fit.ToMesh.{mesh-in, found, object-found, mesh-object}
+use Rattle.demands.proofs.Fit.Held.{in-held, part-closed}
 use Rattle.demands.proofs.Theorems.Statements.{Accepts, mesh, places}
 use Rattle.demands.proofs.Sound.Facts.{sound-inv}
 use Rattle.demands.proofs.Sound.Rows.{ent, twin}
@@ -37,7 +38,7 @@ module _ (ps : Parts) (F : Fit ps) where
       go (suc d) q =
           let w = bounds-in d (name e) f q b in
           let v = mesh-in ps F e i in
-          in-found ps F (v .0) p e (v .2)
+          in-held ps F (v .0) p e (v .2)
           (subst (λ (z : ℕ). T (Rattle.paper.specs.Mesh.holds (getD ps p []) z)) (sym (w .2)) (part-closed ps F p .shape f d (w .0) j q (w .1) .1))
 
   lower-in : (p : ℕ) (e : Entity) → (T (isObject (meshOf ps) (name e)) → ⊥) → In e (getD ps p []) → (f : Entity) × In f (getD ps p []) × T (bounds (name e) f)
