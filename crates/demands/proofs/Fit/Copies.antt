@@ -28,6 +28,7 @@ use Rattle.demands.proofs.Rows.Made.{rows-count, rows-part}
 use Rattle.demands.proofs.Fit.Rows.{in-rows, row-at, ent-back, has-residence, residence-holds, holds-residence}
 use Rattle.demands.proofs.Fit.Fields.{part-small}
 use Rattle.demands.proofs.Fit.Held.{in-held}
+use Rattle.demands.proofs.Sound.Rows.{row}
 
 same-self : (e : Entity) → T (sameEnt e e)
 unfolding sameEnt
@@ -64,7 +65,7 @@ module _ (ps : Parts) (F : Fit ps) (few : (p : ℕ) → length (getD ps p []) < 
   ent-in q e i = ap (λ (rows : List Row). entOf rows (rowFor ps q e)) (rows-part ps q) ∙ ent-back ps F few q e i
 
   -- the copy of e in q, as a row of the set
-  copy-at : (q : ℕ) (e : Entity) → In e (getD ps q []) → getD (getD (rowsFor ps) q []) (slotIn (getD ps q []) (name e)) noRow ≡ rowFor ps q e
+  copy-at : (q : ℕ) (e : Entity) → In e (getD ps q []) → row (rowsFor ps) q (slotIn (getD ps q []) (name e)) ≡ rowFor ps q e
   copy-at q e i = row-at ps q (slotIn (getD ps q []) (name e)) (slot-lt (getD ps q []) (name e) (in-holds (getD ps q []) e i)) ∙ ap (rowFor ps q) (slot-ent q e i)
 
   mask-of : (p : ℕ) (e : Entity) → rowFor ps p e .mask ≡ residenceIn ps (name e)
@@ -76,21 +77,21 @@ module _ (ps : Parts) (F : Fit ps) (few : (p : ℕ) → length (getD ps p []) < 
   owner-of p e = refl
 
   -- the twin of a row, for rows given by equations
-  twin-at : (p s q : ℕ) (e : Entity) → getD (getD (rowsFor ps) p []) s noRow ≡ rowFor ps p e → slotIn (getD ps p []) (name e) ≡ s
+  twin-at : (p s q : ℕ) (e : Entity) → row (rowsFor ps) p s ≡ rowFor ps p e → slotIn (getD ps p []) (name e) ≡ s
       → In e (getD ps p []) → In q (others (residenceIn ps (name e)) p) → T (twinAgrees (rowsFor ps) p s q)
   unfolding twinAgrees rowAt
   twin-at p s q e er es ip iq =
       let S = rowsFor ps in
       let k = name e in
       let m = residenceIn ps k in
-      let r = getD (getD S p []) s noRow in
+      let r = row S p s in
       let t = remoteSlot r p q in
-      let w = getD (getD S q []) t noRow in
+      let w = row S q t in
       let o = others-in m p q iq in
       let v = residence-holds ps k q (o .1) in
       let jq : In e (getD ps q []) = in-held ps F p q e ip (v .1) in
       let et : t ≡ slotIn (getD ps q []) k = ap (λ (x : Row). remoteSlot x p q) er ∙ remote-is ps p q e iq in
-      let ew : w ≡ rowFor ps q e = ap (λ (i : ℕ). getD (getD S q []) i noRow) et ∙ copy-at q e jq in
+      let ew : w ≡ rowFor ps q e = ap (λ (i : ℕ). row S q i) et ∙ copy-at q e jq in
       let hp : In p (others m q) = in-others m q p (part-small ps F few p e ip) (holds-residence ps p e ip) (λ x. o .2 (sym x)) in
       join5 (ltb t (length (getD S q []))) (sameEnt (entOf (getD S p []) r) (entOf (getD S q []) w)) (eqb (r .mask) (w .mask)) (eqb (r .owner) (w .owner)) (eqb (remoteSlot w q p) s) (
         lt→ltb t (length (getD S q [])) (omega (arith, et, in-rows ps q, slot-lt (getD ps q []) k (v .1))),
@@ -120,7 +121,7 @@ module _ (ps : Parts) (F : Fit ps) (few : (p : ℕ) → length (getD ps p []) < 
       let S = rowsFor ps in
       let e = getD (getD ps p []) s noEnt in
       let i = getD-in (getD ps p []) s noEnt h in
-      let r = getD (getD S p []) s noRow in
+      let r = row S p s in
       let er : r ≡ rowFor ps p e = row-at ps p s h in
       both (every (twinAgrees S p s) (others (r .mask) p)) (every (λ q. not (member (nameOfRow r) (map nameOfRow (getD S q []))) || has (r .mask) q) (upTo (length S)))
       (in-every (twinAgrees S p s) (others (r .mask) p) (λ q j.

@@ -27,6 +27,7 @@ use Rattle.demands.proofs.Fit.Rows.{in-rows, row-at, ent-at, residence-
 use Rattle.demands.proofs.Fit.Fields.{own-bit}
 use Rattle.demands.proofs.Fit.Held.{in-held, part-closed}
 use Rattle.demands.proofs.Entities.Closed.{closed-down}
+use Rattle.demands.proofs.Sound.Rows.{row}
 
 pub some-res : (n m : ℕ) (rs : List Row) (a : Row) → In a rs → m ≡ maskOf n (λ q. some? (λ a. has (a .mask) q) rs) → T (residence n m rs)
 unfolding residence
@@ -47,7 +48,7 @@ module _ (ps : Parts) (F : Fit ps) (few : (p : ℕ) → length (getD ps p []) < 
     pub bounded : T (bounds k above)
     pub mask : a .mask ≡ residenceIn ps (name above)
 
-  mask-at : (q t : ℕ) → t < length (getD ps q []) → getD (getD (rowsFor ps) q []) t noRow .mask ≡ residenceIn ps (name (getD (getD ps q []) t noEnt))
+  mask-at : (q t : ℕ) → t < length (getD ps q []) → row (rowsFor ps) q t .mask ≡ residenceIn ps (name (getD (getD ps q []) t noEnt))
   unfolding rowFor
   mask-at q t h = ap (λ (r : Row). r .mask) (row-at ps q t h)
 
@@ -71,7 +72,7 @@ module _ (ps : Parts) (F : Fit ps) (few : (p : ℕ) → length (getD ps p []) < 
       let w = in-getD (getD ps q []) g noEnt i in
       let t = w .0 in
       let e : ent (rowsFor ps) q t ≡ g = ent-at ps F few q t (w .1) ∙ sym (w .2) in (
-        getD (getD (rowsFor ps) q []) t noRow,
+        row (rowsFor ps) q t,
         in-above (rowsFor ps) k q t (subst (λ (n : ℕ). t < n) (sym (in-rows ps q)) (w .1)) (subst (λ (x : Entity). T (bounds k x)) (sym e) b),
         mask-at q t (w .1) ∙ ap (λ (x : Entity). residenceIn ps (name x)) (sym (w .2)),
       )

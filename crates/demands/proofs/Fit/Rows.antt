@@ -30,6 +30,7 @@ use Rattle.demands.proofs.Fit.Record.{Fit}
 use mathlib.Core.Bool.{not}
 use lib.Dec.{nltb→le}
 use lib.ListN.{List·getD-eq-default}
+use Rattle.demands.proofs.Sound.Rows.{row}
 
 -- the rows of part p
 abbrev pub rowsIn : Parts → ℕ → List Row
@@ -38,7 +39,7 @@ rowsIn ps p = map (rowFor ps p) (getD ps p [])
 pub in-rows : (ps : Parts) (p : ℕ) → length (getD (rowsFor ps) p []) ≡ length (getD ps p [])
 in-rows ps p = ap length (rows-part ps p) ∙ length-map (getD ps p []) (rowFor ps p)
 
-pub row-at : (ps : Parts) (p s : ℕ) → s < length (getD ps p []) → getD (getD (rowsFor ps) p []) s noRow ≡ rowFor ps p (getD (getD ps p []) s noEnt)
+pub row-at : (ps : Parts) (p s : ℕ) → s < length (getD ps p []) → row (rowsFor ps) p s ≡ rowFor ps p (getD (getD ps p []) s noEnt)
 row-at ps p s h = ap (λ (rows : List Row). getD rows s noRow) (rows-part ps p) ∙ getD-map (rowFor ps p) (getD ps p []) s noEnt noRow h
 
 -- ---- residence sets

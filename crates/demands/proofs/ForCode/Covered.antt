@@ -27,6 +27,7 @@ use Rattle.demands.proofs.Sound.Rows.{ent, part-in, in-part, row-fields
 use Rattle.demands.proofs.Sound.ToFit.{above-in, in-above, ent-ok, small-part}
 use Rattle.demands.proofs.Fit.Residence.{some-res}
 use Rattle.laws.proofs.Agree.{keep-agree}
+use Rattle.demands.proofs.Sound.Rows.{row}
 
 -- some row of part q has k on its boundary
 unfoldable pub covered : Set → ℕ → ℕ → Bool
@@ -60,7 +61,7 @@ module _ (S : Set) (f : Copied S) where
     k = name (ent S p s)
 
     m : ℕ
-    m = getD (getD S p []) s noRow .mask
+    m = row S p s .mask
 
     own-in : In p (partsIn m)
     unfolding m
@@ -98,7 +99,7 @@ module _ (S : Set) (f : Copied S) where
     unfolding k
     covers-row q t =
         let w = covered-row S q k t in
-        (getD (getD S q []) (w .0) noRow, in-above S k q (w .0) (w .1) (w .2), row-fields S f q (w .0) (w .1) .own)
+        (row S q (w .0), in-above S k q (w .0) (w .1) (w .2), row-fields S f q (w .0) (w .1) .own)
 
     to : (rs : List Row) → rowsAbove S k ≡ rs → T (residence (length S) m rs) → T (eqb (count m) 1 || every (λ q. covered S q k) (partsIn m))
     unfolding residence

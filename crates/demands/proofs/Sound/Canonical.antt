@@ -26,23 +26,24 @@ use Rattle.demands.proofs.Rows.Made.{rows-count, rows-part}
 use Rattle.demands.proofs.Sound.Facts.{Sound}
 use Rattle.demands.proofs.Sound.Rows.{ent, parts-at, parts-count, row-fields, row-wide, slot-is, twin, held-has, has-in, in-part}
 use Rattle.demands.proofs.Sound.ToFit.{row-slots, small-part}
+use Rattle.demands.proofs.Sound.Rows.{row}
 
 module _ (S : Set) (f : Sound S) where
   -- the residence set is that of the parts which hold the entity
-  mask-is : (p s : ℕ) → s < length (getD S p []) → residenceIn (partsOf S) (name (ent S p s)) ≡ getD (getD S p []) s noRow .mask
+  mask-is : (p s : ℕ) → s < length (getD S p []) → residenceIn (partsOf S) (name (ent S p s)) ≡ row S p s .mask
   unfolding residenceIn
   mask-is p s h =
       let k = name (ent S p s) in
-      let m = getD (getD S p []) s noRow .mask in
+      let m = row S p s .mask in
       maskOf-is (length (partsOf S)) m (λ q. holds (getD (partsOf S) q []) k) (subst (λ (z : ℕ). m < 2 ^ z) (sym (parts-count S)) (row-fields S (f .copied) p s h .mask))
       (λ q. held-has S (f .copied) p s q h) (λ q t. in-holds (getD (partsOf S) q []) (ent S p s) (has-in S (f .copied) p s q h t))
 
   -- the remote slots are the places of the entity in the other parts
   slots-are : (p s : ℕ) → s < length (getD S p [])
-      → map (λ q. slotIn (getD (partsOf S) q []) (name (ent S p s))) (others (getD (getD S p []) s noRow .mask) p) ≡ getD (getD S p []) s noRow .slots
+      → map (λ q. slotIn (getD (partsOf S) q []) (name (ent S p s))) (others (row S p s .mask) p) ≡ row S p s .slots
   unfolding remoteSlot
   slots-are p s h =
-      let r = getD (getD S p []) s noRow in
+      let r = row S p s in
       let k = name (ent S p s) in
       let os = others (r .mask) p in
       map-same (λ q. slotIn (getD (partsOf S) q []) k) (λ q. remoteSlot r p q) os
@@ -52,11 +53,11 @@ module _ (S : Set) (f : Sound S) where
       (row-wide S (f .copied) p s h .row .slots ∙ sym (remotes-others (r .mask) p (small-part S (f .copied) p (ent S p s) (in-part S p s h)) (row-fields S (f .copied) p s h .own)))
 
   -- the body is written from the shape
-  body-is : (p s : ℕ) → s < length (getD S p []) → (d : ℕ) → getD (getD S p []) s noRow .dim ≡ d
-      → bodyIn (getD (partsOf S) p []) d (shapeOf (getD S p []) d (getD (getD S p []) s noRow .body)) ≡ getD (getD S p []) s noRow .body
+  body-is : (p s : ℕ) → s < length (getD S p []) → (d : ℕ) → row S p s .dim ≡ d
+      → bodyIn (getD (partsOf S) p []) d (shapeOf (getD S p []) d (row S p s .body)) ≡ row S p s .body
   unfolding bodyIn shapeOf slotsOf bodyFits
   body-is p s h zero e =
-      let r = getD (getD S p []) s noRow in
+      let r = row S p s in
       let w = row-wide S (f .copied) p s h in
       vertex-body (r .body) (w .body) (w .row .body)
   body-is p s h (suc d) e =
@@ -74,25 +75,25 @@ module _ (S : Set) (f : Sound S) where
       ∙ slots-body d (r .body) (w .body) (w .row .body) (omega (arith, e, row-fields S (f .copied) p s h .dim))
       (subst (λ (k : ℕ). T (bodyFits k (r .body))) e (row-fields S (f .copied) p s h .body))
     where
-      slot-of : (p t d : ℕ) → t < length (getD S p []) → getD (getD S p []) t noRow .dim ≡ d → slotIn (getD (partsOf S) p []) (nameOf d (getD (getD S p []) t noRow .number)) ≡ t
-      slot-of p t d l e = unfold entOf in ap (λ (z : ℕ). slotIn (getD (partsOf S) p []) (nameOf z (getD (getD S p []) t noRow .number))) (sym e) ∙ slot-is S (f .copied) p t l
+      slot-of : (p t d : ℕ) → t < length (getD S p []) → row S p t .dim ≡ d → slotIn (getD (partsOf S) p []) (nameOf d (row S p t .number)) ≡ t
+      slot-of p t d l e = unfold entOf in ap (λ (z : ℕ). slotIn (getD (partsOf S) p []) (nameOf z (row S p t .number))) (sym e) ∙ slot-is S (f .copied) p t l
 
-  owner-is : (p s : ℕ) → s < length (getD S p []) → ownerOf (partsOf S) (partsIn (getD (getD S p []) s noRow .mask)) ≡ getD (getD S p []) s noRow .owner
+  owner-is : (p s : ℕ) → s < length (getD S p []) → ownerOf (partsOf S) (partsIn (row S p s .mask)) ≡ row S p s .owner
   unfolding ownedWell rowAt
-  owner-is p s h = let r = getD (getD S p []) s noRow in sym (eqb→eq (r .owner) (ownerOf (partsOf S) (partsIn (r .mask))) (f .owner p s h))
+  owner-is p s h = let r = row S p s in sym (eqb→eq (r .owner) (ownerOf (partsOf S) (partsIn (r .mask))) (f .owner p s h))
 
-  row-is : (p s : ℕ) → s < length (getD S p []) → rowFor (partsOf S) p (ent S p s) ≡ getD (getD S p []) s noRow
+  row-is : (p s : ℕ) → s < length (getD S p []) → rowFor (partsOf S) p (ent S p s) ≡ row S p s
   unfolding rowFor entOf
   row-is p s h = λ i.
       record {
-        number = getD (getD S p []) s noRow .number;
-        dim = getD (getD S p []) s noRow .dim;
+        number = row S p s .number;
+        dim = row S p s .dim;
         owner = (ap (λ (m : ℕ). ownerOf (partsOf S) (partsIn m)) (mask-is p s h) ∙ owner-is p s h) i;
-        kind = getD (getD S p []) s noRow .kind;
+        kind = row S p s .kind;
         pad = sym (row-fields S (f .copied) p s h .pad) i;
         mask = mask-is p s h i;
-        value = getD (getD S p []) s noRow .value;
-        body = body-is p s h (getD (getD S p []) s noRow .dim) refl i;
+        value = row S p s .value;
+        body = body-is p s h (row S p s .dim) refl i;
         slots = (ap (λ (m : ℕ). map (λ q. slotIn (getD (partsOf S) q []) (name (ent S p s))) (others m p)) (mask-is p s h) ∙ slots-are p s h) i;
       }
 

@@ -26,9 +26,13 @@ use Rattle.laws.proofs.Places.{index-getD}
 use Rattle.part_set.proofs.MaskParts.{has-lt, in-others}
 use Rattle.demands.proofs.Sound.Facts.{Copied}
 
+-- the row at slot s of part p, as `rowAt`, but always open
+abbrev pub row : Set → ℕ → ℕ → Row
+row S p s = getD (getD S p []) s noRow
+
 -- the entity of a row
 abbrev pub ent : Set → ℕ → ℕ → Entity
-ent S p s = entOf (getD S p []) (getD (getD S p []) s noRow)
+ent S p s = entOf (getD S p []) (row S p s)
 
 pub parts-at : (S : Set) (p : ℕ) → getD (partsOf S) p [] ≡ map (entOf (getD S p [])) (getD S p [])
 unfolding partsOf
@@ -46,7 +50,7 @@ part-in S p e i =
 
 pub in-part : (S : Set) (p s : ℕ) → s < length (getD S p []) → In (ent S p s) (getD (partsOf S) p [])
 in-part S p s h =
-    subst (λ (l : List Entity). In (ent S p s) l) (sym (parts-at S p)) (in-map (entOf (getD S p [])) (getD S p []) (getD (getD S p []) s noRow) (getD-in (getD S p []) s noRow h))
+    subst (λ (l : List Entity). In (ent S p s) l) (sym (parts-at S p)) (in-map (entOf (getD S p [])) (getD S p []) (row S p s) (getD-in (getD S p []) s noRow h))
 
 -- the names of a part are those of its rows
 pub part-names : (S : Set) (p : ℕ) → map name (getD (partsOf S) p []) ≡ map nameOfRow (getD S p [])
@@ -100,14 +104,22 @@ same-ent e f he hf t =
     let sh = same-eq (e .shape) (f .shape) (s .3) in
     λ i. record { dim = d i; number = k i; kind = kd i; value = v i; shape = sh i }
 
+-- the copy of row s of part p in part q: the same entity with the same residence set and owner, and it names this row's slot back
+pub record Twin (S : Set) (p s q : ℕ) : Type 0 where
+  pub slot : remoteSlot (row S p s) p q < length (getD S q [])
+  pub ent-same : ent S p s ≡ ent S q (remoteSlot (row S p s) p q)
+  pub mask-same : row S p s .mask ≡ row S q (remoteSlot (row S p s) p q) .mask
+  pub owner-same : row S p s .owner ≡ row S q (remoteSlot (row S p s) p q) .owner
+  pub back : remoteSlot (row S q (remoteSlot (row S p s) p q)) q p ≡ s
+
 -- ---- a set that passes rules 7 to 10
 
 module _ (S : Set) (f : Copied S) where
-  pub row-fields : (p s : ℕ) → s < length (getD S p []) → FieldsOk (length S) p (getD (getD S p []) s noRow)
+  pub row-fields : (p s : ℕ) → s < length (getD S p []) → FieldsOk (length S) p (row S p s)
   unfolding rowAt
-  row-fields p s h = fields-of (length S) p (getD (getD S p []) s noRow) (f .fields p s h)
+  row-fields p s h = fields-of (length S) p (row S p s) (f .fields p s h)
 
-  pub row-wide : (p s : ℕ) → s < length (getD S p []) → Wide (getD (getD S p []) s noRow)
+  pub row-wide : (p s : ℕ) → s < length (getD S p []) → Wide (row S p s)
   unfolding rowAt
   row-wide p s h = f .wide p s h
 
@@ -139,30 +151,31 @@ module _ (S : Set) (f : Copied S) where
       ap (λ (k : ℕ). indexOf k (map name (getD (partsOf S) p []))) (sym (name-at S p s h))
       ∙ index-getD (map name (getD (partsOf S) p [])) (names-ascend p) s (subst (λ (n : ℕ). s < n) (sym (names-count S p)) h)
 
-  -- rule 10: the copy in another part of the residence set
-  pub record Twin (p s q : ℕ) : Type 0 where
-    pub slot : remoteSlot (getD (getD S p []) s noRow) p q < length (getD S q [])
-    pub ent-same : ent S p s ≡ ent S q (remoteSlot (getD (getD S p []) s noRow) p q)
-    pub back : remoteSlot (getD (getD S q []) (remoteSlot (getD (getD S p []) s noRow) p q) noRow) q p ≡ s
-
-  pub twin : (p s q : ℕ) → s < length (getD S p []) → In q (others (getD (getD S p []) s noRow .mask) p) → Twin p s q
+  -- rule 10
+  pub twin : (p s q : ℕ) → s < length (getD S p []) → In q (others (row S p s .mask) p) → Twin S p s q
   unfolding copiesAgree twinAgrees rowAt
   twin p s q h i =
-      let r = getD (getD S p []) s noRow in
+      let r = row S p s in
       let c = split2 (every (twinAgrees S p s) (others (r .mask) p))
       (every (λ q. not (member (nameOfRow r) (map nameOfRow (getD S q []))) || has (r .mask) q) (upTo (length S))) (f .copies p s h) in
       let t = remoteSlot r p q in
-      let w = getD (getD S q []) t noRow in
+      let w = row S q t in
       let a = split5 (ltb t (length (getD S q []))) (sameEnt (entOf (getD S p []) r) (entOf (getD S q []) w))
       (eqb (r .mask) (w .mask)) (eqb (r .owner) (w .owner)) (eqb (remoteSlot w q p) s) (every-in (twinAgrees S p s) (others (r .mask) p) (c .0) q i) in
       let l = ltb→lt t (length (getD S q [])) (a .0) in
-      record { slot = l; ent-same = same-ent (ent S p s) (ent S q t) (number-lt p s h) (number-lt q t l) (a .1); back = eqb→eq (remoteSlot w q p) s (a .4) }
+      record {
+        slot = l;
+        ent-same = same-ent (ent S p s) (ent S q t) (number-lt p s h) (number-lt q t l) (a .1);
+        mask-same = eqb→eq (r .mask) (w .mask) (a .2);
+        owner-same = eqb→eq (r .owner) (w .owner) (a .3);
+        back = eqb→eq (remoteSlot w q p) s (a .4);
+      }
 
   -- every part that holds the entity is in the set
-  pub held-has : (p s q : ℕ) → s < length (getD S p []) → T (holds (getD (partsOf S) q []) (name (ent S p s))) → T (has (getD (getD S p []) s noRow .mask) q)
+  pub held-has : (p s q : ℕ) → s < length (getD S p []) → T (holds (getD (partsOf S) q []) (name (ent S p s))) → T (has (row S p s .mask) q)
   unfolding copiesAgree rowAt holds entOf
   held-has p s q h t =
-      let r = getD (getD S p []) s noRow in
+      let r = row S p s in
       let c = split2 (every (twinAgrees S p s) (others (r .mask) p))
       (every (λ q. not (member (nameOfRow r) (map nameOfRow (getD S q []))) || has (r .mask) q) (upTo (length S))) (f .copies p s h) in
       let m : T (member (nameOfRow r) (map nameOfRow (getD S q []))) = subst (λ (l : List ℕ). T (member (nameOfRow r) l)) (part-names S q) t in
@@ -172,23 +185,23 @@ module _ (S : Set) (f : Copied S) where
       (every-in (λ q. not (member (nameOfRow r) (map nameOfRow (getD S q []))) || has (r .mask) q) (upTo (length S)) (c .1) q
       (in-upTo (length S) q (subst (λ (n : ℕ). q < n) (parts-count S) l)))) m
     where
-      go : T (not (member (nameOfRow (getD (getD S p []) s noRow)) (map nameOfRow (getD S q [])))) ⊎ T (has (getD (getD S p []) s noRow .mask) q)
-          → T (member (nameOfRow (getD (getD S p []) s noRow)) (map nameOfRow (getD S q []))) → T (has (getD (getD S p []) s noRow .mask) q)
-      go (inl x) y = absurd (T-not (member (nameOfRow (getD (getD S p []) s noRow)) (map nameOfRow (getD S q []))) x y)
+      go : T (not (member (nameOfRow (row S p s)) (map nameOfRow (getD S q [])))) ⊎ T (has (row S p s .mask) q)
+          → T (member (nameOfRow (row S p s)) (map nameOfRow (getD S q []))) → T (has (row S p s .mask) q)
+      go (inl x) y = absurd (T-not (member (nameOfRow (row S p s)) (map nameOfRow (getD S q []))) x y)
       go (inr x) y = x
 
   -- and every part of the set holds the entity
-  pub has-in : (p s q : ℕ) → s < length (getD S p []) → T (has (getD (getD S p []) s noRow .mask) q) → In (ent S p s) (getD (partsOf S) q [])
+  pub has-in : (p s q : ℕ) → s < length (getD S p []) → T (has (row S p s .mask) q) → In (ent S p s) (getD (partsOf S) q [])
   has-in p s q h t = go (decide (eqb q p))
     where
       go : T (eqb q p) ⊎ T (not (eqb q p)) → In (ent S p s) (getD (partsOf S) q [])
       go (inl e) = subst (λ (z : ℕ). In (ent S p s) (getD (partsOf S) z [])) (sym (eqb→eq q p e)) (in-part S p s h)
       go (inr ne) =
-          let m = getD (getD S p []) s noRow .mask in
+          let m = row S p s .mask in
           let l : q < length S = has-lt (length S) m q (row-fields p s h .mask) t in
           let i = in-others m p q (omega (arith, f .few-parts)) t (λ e. T-not (eqb q p) ne (eq-eqb q p e)) in
           let w = twin p s q h i in
-          subst (λ (x : Entity). In x (getD (partsOf S) q [])) (sym (w .ent-same)) (in-part S q (remoteSlot (getD (getD S p []) s noRow) p q) (w .slot))
+          subst (λ (x : Entity). In x (getD (partsOf S) q [])) (sym (w .ent-same)) (in-part S q (remoteSlot (row S p s) p q) (w .slot))
 
   pub agree : (p q : ℕ) (e g : Entity) → In e (getD (partsOf S) p []) → In g (getD (partsOf S) q []) → name e ≡ name g → e ≡ g
   agree p q e g i j n =

@@ -27,6 +27,7 @@ use Rattle.demands.proofs.Entities.Fits.{EntOk, of-faces}
 use Rattle.demands.proofs.Fit.Record.{Fit}
 use Rattle.demands.proofs.Sound.Facts.{Copied, Sound}
 use Rattle.demands.proofs.Sound.Rows.{ent, parts-at, parts-count, part-in, in-part, name-at, names-count, row-fields, row-wide, number-lt, names-ascend, held-has, has-in, agree}
+use Rattle.demands.proofs.Sound.Rows.{row}
 
 -- ---- rule 9: the slots of a boundary
 
@@ -50,7 +51,7 @@ slots-of rows r d e t =
 
 -- ---- rule 11: what is above an entity
 
-pub above-in : (S : Set) (k : ℕ) (a : Row) → In a (rowsAbove S k) → (q : ℕ) × (t : ℕ) × (t < length (getD S q [])) × (a ≡ getD (getD S q []) t noRow) × T (bounds k (ent S q t))
+pub above-in : (S : Set) (k : ℕ) (a : Row) → In a (rowsAbove S k) → (q : ℕ) × (t : ℕ) × (t < length (getD S q [])) × (a ≡ row S q t) × T (bounds k (ent S q t))
 unfolding rowsAbove
 above-in S k a i =
     let w = flat-map-in (λ rows. keep (λ r. bounds k (entOf rows r)) rows) S a i in
@@ -59,7 +60,7 @@ above-in S k a i =
     let g = in-getD (getD S (v .0) []) a noRow (j .0) in
     (v .0, g .0, g .1, g .2, subst (λ (r : Row). T (bounds k (entOf (getD S (v .0) []) r))) (g .2) (j .1))
 
-pub in-above : (S : Set) (k q t : ℕ) → t < length (getD S q []) → T (bounds k (ent S q t)) → In (getD (getD S q []) t noRow) (rowsAbove S k)
+pub in-above : (S : Set) (k q t : ℕ) → t < length (getD S q []) → T (bounds k (ent S q t)) → In (row S q t) (rowsAbove S k)
 unfolding rowsAbove
 in-above S k q t h b =
     let rows = getD S q [] in
@@ -80,8 +81,8 @@ res-none n m (r ∷ rs) h t = absurd (h r (inl refl))
 -- ---- the parts fit
 
 module _ (S : Set) (f : Copied S) where
-  pub row-slots : (p s d : ℕ) → s < length (getD S p []) → getD (getD S p []) s noRow .dim ≡ suc d
-      → SlotsOk (getD S p []) d (words (suc (suc d)) (getD (getD S p []) s noRow .body))
+  pub row-slots : (p s d : ℕ) → s < length (getD S p []) → row S p s .dim ≡ suc d
+      → SlotsOk (getD S p []) d (words (suc (suc d)) (row S p s .body))
   unfolding boundaryStands rowAt
   row-slots p s d h e =
       let rows = getD S p [] in
@@ -97,23 +98,23 @@ module _ (S : Set) (f : Copied S) where
       (split2 (slotsStand rows r) (simplex (map (entOf rows) rows) (r .dim) (r .number) (shapeOf rows (r .dim) (r .body))) (f .boundary p s h) .1)
 
   -- of two rows of one dimension the later has the greater number
-  numbers-ascend : (p a b d : ℕ) → a < b → a < length (getD S p []) → b < length (getD S p []) → getD (getD S p []) a noRow .dim ≡ d → getD (getD S p []) b noRow .dim ≡ d
-      → getD (getD S p []) a noRow .number < getD (getD S p []) b noRow .number
+  numbers-ascend : (p a b d : ℕ) → a < b → a < length (getD S p []) → b < length (getD S p []) → row S p a .dim ≡ d → row S p b .dim ≡ d
+      → row S p a .number < row S p b .number
   unfolding entOf
   numbers-ascend p a b d l ha hb da db =
       omega (arith, asc-getD (map name (getD (partsOf S) p [])) (names-ascend S f p) a b l (subst (λ (n : ℕ). b < n) (sym (names-count S p)) hb), name-at S p a ha, name-at S p b hb)
 
   -- the entity at a slot, held by its name
-  slot-held : (p t d : ℕ) → t < length (getD S p []) → getD (getD S p []) t noRow .dim ≡ d → T (holds (getD (partsOf S) p []) (nameOf d (getD (getD S p []) t noRow .number)))
+  slot-held : (p t d : ℕ) → t < length (getD S p []) → row S p t .dim ≡ d → T (holds (getD (partsOf S) p []) (nameOf d (row S p t .number)))
   unfolding entOf
   slot-held p t d h e =
-      subst (λ (z : ℕ). T (holds (getD (partsOf S) p []) (nameOf z (getD (getD S p []) t noRow .number)))) e (in-holds (getD (partsOf S) p []) (ent S p t) (in-part S p t h))
+      subst (λ (z : ℕ). T (holds (getD (partsOf S) p []) (nameOf z (row S p t .number)))) e (in-holds (getD (partsOf S) p []) (ent S p t) (in-part S p t h))
 
-  shape-fits : (p s : ℕ) → s < length (getD S p []) → (d : ℕ) → getD (getD S p []) s noRow .dim ≡ d
-      → T (shapeFits (getD (partsOf S) p []) d (shapeOf (getD S p []) d (getD (getD S p []) s noRow .body)))
+  shape-fits : (p s : ℕ) → s < length (getD S p []) → (d : ℕ) → row S p s .dim ≡ d
+      → T (shapeFits (getD (partsOf S) p []) d (shapeOf (getD S p []) d (row S p s .body)))
   unfolding shapeFits shapeOf bodyFits slotsOf entOf
   shape-fits p s h zero e =
-      let r = getD (getD S p []) s noRow in
+      let r = row S p s in
       let xs = longs 3 (r .body) in
       let fin = subst (λ (d : ℕ). T (bodyFits d (r .body))) e (row-fields S f p s h .body) in
       both (eqb (length xs) 3) (every (λ x. ltb x (2 ^ 64) && finite x) xs) (eq-eqb (length xs) 3 (length-longs 3 (r .body)))
@@ -148,7 +149,7 @@ module _ (S : Set) (f : Copied S) where
         kind = k .kind;
         value = w .row .value;
         fits = k .value;
-        shape = shape-fits p s h (getD (getD S p []) s noRow .dim) refl;
+        shape = shape-fits p s h (row S p s .dim) refl;
         simple = row-simplex p s h;
       }
 
@@ -156,7 +157,7 @@ module _ (S : Set) (f : Copied S) where
   small-part p e i = omega (arith, part-lt (partsOf S) p e i, parts-count S, f .few-parts)
 
 module _ (S : Set) (f : Sound S) where
-  row-residence : (p s : ℕ) → s < length (getD S p []) → T (residence (length S) (getD (getD S p []) s noRow .mask) (rowsAbove S (name (ent S p s))))
+  row-residence : (p s : ℕ) → s < length (getD S p []) → T (residence (length S) (row S p s .mask) (rowsAbove S (name (ent S p s))))
   unfolding residesWell rowAt entOf
   row-residence p s h = f .residence p s h
 
@@ -165,7 +166,7 @@ module _ (S : Set) (f : Sound S) where
   unfolding count
   once-at p q s h j t =
       let k = name (ent S p s) in
-      let m = getD (getD S p []) s noRow .mask in
+      let m = row S p s .mask in
       let one = res-none (length S) m (rowsAbove S k) (λ a i.
       let w = above-in S k a i in
       not-object (flat (partsOf S)) k (ent S (w .0) (w .1)) (in-flat (partsOf S) (w .0) (ent S (w .0) (w .1)) (in-part S (w .0) (w .1) (w .2))) (w .4) t) (row-residence p s h) in
@@ -180,11 +181,11 @@ module _ (S : Set) (f : Sound S) where
       go (inl t) = inl t
       go (inr g) =
           let k = name (ent S p s) in
-          let m = getD (getD S p []) s noRow .mask in
+          let m = row S p s .mask in
           let v = flat-in (partsOf S) (g .0) (g .1) in
           let w = part-in S (v .0) (g .0) (v .2) in
           let i = in-above S k (v .0) (w .0) (w .1) (subst (λ (x : Entity). T (bounds k x)) (w .2) (g .2)) in
-          let union = res-some (length S) m (rowsAbove S k) (getD (getD S (v .0) []) (w .0) noRow) i (row-residence p s h) in
+          let union = res-some (length S) m (rowsAbove S k) (row S (v .0) (w .0)) i (row-residence p s h) in
           let own = row-fields S (f .copied) p s h .own in
           let l : p < length S = has-lt (length S) m p (row-fields S (f .copied) p s h .mask) own in
           let t : T (some? (λ a. has (a .mask) p) (rowsAbove S k)) =

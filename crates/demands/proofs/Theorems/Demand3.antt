@@ -25,6 +25,7 @@ use Rattle.demands.proofs.Sound.Rows.{ent, twin}
 use Rattle.demands.proofs.Sound.ToFit.{sound-fit}
 use Rattle.demands.proofs.Theorems.Moves.{begin, keeps}
 use Rattle.laws.proofs.Agree.{map-at}
+use Rattle.demands.proofs.Sound.Rows.{row}
 
 -- ---- where entities are, in parts that fit
 
@@ -72,9 +73,9 @@ pub record Kept (S S′ : Set) (place : Placement) (b′ : List ℕ) : Type 0 wh
   pub lower : (e : Entity) (p : ℕ) → (T (isObject (mesh S) (name e)) → ⊥) → In e (getD (partsOf S′) p []) → (f : Entity) × In f (getD (partsOf S′) p []) × T (bounds (name e) f)
   pub bounded : (e f : Entity) (p : ℕ) → In e (mesh S) → In f (getD (partsOf S′) p []) → T (bounds (name e) f) → In e (getD (partsOf S′) p [])
   -- every remote copy is the same entity and is returned by its twin
-  pub twins : (p s q : ℕ) → s < length (getD S′ p []) → In q (others (getD (getD S′ p []) s noRow .mask) p)
-      → let t = remoteSlot (getD (getD S′ p []) s noRow) p q in
-      (t < length (getD S′ q [])) × (ent S′ p s ≡ ent S′ q t) × (remoteSlot (getD (getD S′ q []) t noRow) q p ≡ s)
+  pub twins : (p s q : ℕ) → s < length (getD S′ p []) → In q (others (row S′ p s .mask) p)
+      → let t = remoteSlot (row S′ p s) p q in
+      (t < length (getD S′ q [])) × (ent S′ p s ≡ ent S′ q t) × (remoteSlot (row S′ q t) q p ≡ s)
 
 pub demand-3 : (b : List ℕ) (S : Set) → T (areBytes b) → Accepts b S → (as′ : List Ask) → (S′ : Set) × Kept S S′ (lastPlaces b as′ (places S)) (history b as′)
 demand-3 b S y a as′ =
