@@ -8,3 +8,4 @@ pub mod Copies
 pub mod Residence
 pub mod ToSound
 pub mod ToMesh
+pub mod Where

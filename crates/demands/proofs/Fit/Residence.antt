@@ -21,13 +21,12 @@ use Rattle.laws.proofs.Ascending.{one-only}
 use Rattle.part_set.proofs.MaskParts.{partsIn-in, partsIn-ascends}
 use Rattle.demands.proofs.Fit.Record.{Fit}
 use Rattle.demands.proofs.Rows.Made.{rows-count}
-use Rattle.demands.proofs.Sound.Rows.{ent}
+use Rattle.demands.proofs.Sound.Rows.{ent, row}
 use Rattle.demands.proofs.Sound.ToFit.{above-in, in-above}
 use Rattle.demands.proofs.Fit.Rows.{in-rows, row-at, ent-at, residence-lt, has-residence, residence-holds, holds-residence}
 use Rattle.demands.proofs.Fit.Fields.{own-bit}
 use Rattle.demands.proofs.Fit.Held.{in-held, part-closed}
 use Rattle.demands.proofs.Entities.Closed.{closed-down}
-use Rattle.demands.proofs.Sound.Rows.{row}
 
 pub some-res : (n m : ℕ) (rs : List Row) (a : Row) → In a rs → m ≡ maskOf n (λ q. some? (λ a. has (a .mask) q) rs) → T (residence n m rs)
 unfolding residence

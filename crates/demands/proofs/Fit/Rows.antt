@@ -25,12 +25,11 @@ use Rattle.demands.proofs.Rows.Bodies.{longs-back}
 use Rattle.demands.proofs.Rows.ReadBack.{standing, shape-back}
 use Rattle.demands.proofs.Entities.Fits.{FacesOk, faces-of}
 use Rattle.demands.proofs.Rows.Made.{rows-count, rows-part}
-use Rattle.demands.proofs.Sound.Rows.{ent, parts-at, parts-count}
+use Rattle.demands.proofs.Sound.Rows.{ent, parts-at, parts-count, row}
 use Rattle.demands.proofs.Fit.Record.{Fit}
 use mathlib.Core.Bool.{not}
 use lib.Dec.{nltb→le}
 use lib.ListN.{List·getD-eq-default}
-use Rattle.demands.proofs.Sound.Rows.{row}
 
 -- the rows of part p
 abbrev pub rowsIn : Parts → ℕ → List Row

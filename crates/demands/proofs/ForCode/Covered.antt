@@ -23,11 +23,10 @@ use Rattle.demands.proofs.Entities.Closed.{Closed, closed-down}
 use Rattle.demands.proofs.Entities.Fits.{EntOk, fits-closed}
 use Rattle.demands.proofs.Fit.Record.{Fit}
 use Rattle.demands.proofs.Sound.Facts.{Copied}
-use Rattle.demands.proofs.Sound.Rows.{ent, part-in, in-part, row-fields, held-has, has-in}
+use Rattle.demands.proofs.Sound.Rows.{ent, part-in, in-part, row-fields, held-has, has-in, row}
 use Rattle.demands.proofs.Sound.ToFit.{above-in, in-above, ent-ok, small-part}
 use Rattle.demands.proofs.Fit.Residence.{some-res}
 use Rattle.laws.proofs.Agree.{keep-agree}
-use Rattle.demands.proofs.Sound.Rows.{row}
 
 -- some row of part q has k on its boundary
 unfoldable pub covered : Set → ℕ → ℕ → Bool

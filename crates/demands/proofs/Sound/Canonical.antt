@@ -24,13 +24,12 @@ use Rattle.paper.proofs.Remotes.{remotes-others}
 use Rattle.demands.proofs.Rows.Bodies.{vertex-body, slots-body}
 use Rattle.demands.proofs.Rows.Made.{rows-count, rows-part}
 use Rattle.demands.proofs.Sound.Facts.{Sound}
-use Rattle.demands.proofs.Sound.Rows.{ent, parts-at, parts-count, row-fields, row-wide, slot-is, twin, held-has, has-in, in-part}
+use Rattle.demands.proofs.Sound.Rows.{ent, parts-at, parts-count, row-fields, row-wide, slot-is, twin, held-has, has-in, in-part, row}
 use Rattle.demands.proofs.Sound.ToFit.{row-slots, small-part}
-use Rattle.demands.proofs.Sound.Rows.{row}
 
 module _ (S : Set) (f : Sound S) where
   -- the residence set is that of the parts which hold the entity
-  mask-is : (p s : ℕ) → s < length (getD S p []) → residenceIn (partsOf S) (name (ent S p s)) ≡ row S p s .mask
+  pub mask-is : (p s : ℕ) → s < length (getD S p []) → residenceIn (partsOf S) (name (ent S p s)) ≡ row S p s .mask
   unfolding residenceIn
   mask-is p s h =
       let k = name (ent S p s) in

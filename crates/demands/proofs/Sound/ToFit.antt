@@ -26,8 +26,7 @@ use Rattle.demands.proofs.Rows.Bodies.{length-longs, longs-small}
 use Rattle.demands.proofs.Entities.Fits.{EntOk, of-faces}
 use Rattle.demands.proofs.Fit.Record.{Fit}
 use Rattle.demands.proofs.Sound.Facts.{Copied, Sound}
-use Rattle.demands.proofs.Sound.Rows.{ent, parts-at, parts-count, part-in, in-part, name-at, names-count, row-fields, row-wide, number-lt, names-ascend, held-has, has-in, agree}
-use Rattle.demands.proofs.Sound.Rows.{row}
+use Rattle.demands.proofs.Sound.Rows.{ent, parts-at, parts-count, part-in, in-part, name-at, names-count, row-fields, row-wide, number-lt, names-ascend, held-has, has-in, agree, row}
 
 -- ---- rule 9: the slots of a boundary
 

@@ -18,7 +18,9 @@ use Rattle.laws.proofs.Tests.{T-true}
 use Rattle.demands.proofs.Mesh.Places.{spread-same}
 use Rattle.demands.proofs.Theorems.Statements.{Accepts, mesh, places}
 use Rattle.demands.proofs.Theorems.T1.{theorem-1}
-use Rattle.demands.proofs.Theorems.Moves.{Now, begin, went, moves-at, migrate-is, moved-same}
+use Rattle.demands.proofs.Theorems.Now.{Now, begin, moves-at}
+use Rattle.demands.proofs.Theorems.Went.{went, migrate-is}
+use Rattle.demands.proofs.Theorems.Destinations.{moved-same}
 
 changes-none : (xs : List ℕ) → changes xs xs ≡ 0
 unfolding changes
