@@ -10,7 +10,7 @@ use lib.ListN.{length, getD, length-map, List·getD-map}
 use lib.Dec.{T, eqb, ltb, lt→ltb, eqb-refl}
 use Rattle.laws.specs.Lists.{In, every, same, upTo, member, indexOf}
 use Rattle.part_set.specs.Masks.{has, others, partsIn}
-use Rattle.paper.specs.Image.{Row, noRow, rowAt}
+use Rattle.paper.specs.Image.{Row, rowAt}
 use Rattle.paper.specs.Mesh.{Entity, Parts, name, noEnt, sameEnt, entOf, holds, slotIn, ownerOf}
 use Rattle.paper.specs.Sound.{nameOfRow, remoteSlot, twinAgrees, copiesAgree}
 use Rattle.paper.specs.Placement.{residenceIn, rowFor, rowsFor}

@@ -9,7 +9,7 @@ use lib.ListN.{length, getD}
 use lib.Dec.{T}
 use Rattle.laws.specs.Lists.{In, some?, flat}
 use Rattle.part_set.specs.Masks.{has, count, partsIn, maskOf}
-use Rattle.paper.specs.Image.{Row, noRow, rowAt}
+use Rattle.paper.specs.Image.{Row, rowAt}
 use Rattle.paper.specs.Mesh.{Entity, Parts, name, noEnt, bounds, isObject}
 use Rattle.paper.specs.Sound.{nameOfRow, rowsAbove, residence, residesWell}
 use Rattle.paper.specs.Placement.{residenceIn, rowFor, rowsFor}

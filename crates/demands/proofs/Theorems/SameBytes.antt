@@ -10,7 +10,7 @@ use lib.Pow.{areBytes}
 use Rattle.laws.specs.Lists.{In}
 use Rattle.paper.specs.Image.{Set, imageOf}
 use Rattle.paper.specs.Mesh.{Entity, Parts, name, entOf, partsOf}
-use Rattle.paper.specs.Placement.{spread, rowsFor, placesOf, imageFor}
+use Rattle.paper.specs.Placement.{spread, rowsFor, placesOf}
 use Rattle.laws.proofs.Keyed.{ascending-ext}
 use Rattle.paper.proofs.Outcomes.{accepted-inj}
 use Rattle.demands.proofs.Mesh.Places.{spread-same}

@@ -3,14 +3,14 @@
 -- Assumes nothing.
 use Prim.Native.Nat.{ℕ, _<_}
 use native.Mathlib.Omega.{arith}
-use mathlib.Core.Path.{_≡_, refl, sym, ap, ap₂, _∙_, subst}
-use mathlib.Core.List.{List, [], map}
+use mathlib.Core.Path.{_≡_, sym, ap, ap₂, _∙_, subst}
+use mathlib.Core.List.{List, []}
 use lib.ListN.{length, getD}
 use lib.Dec.{T, eqb→eq}
 use lib.Pow.{areBytes}
 use Rattle.laws.specs.Lists.{In}
 use Rattle.part_set.specs.Masks.{others, partsIn}
-use Rattle.paper.specs.Image.{Row, Set, imageOf, rowAt}
+use Rattle.paper.specs.Image.{Set, rowAt}
 use Rattle.paper.specs.Mesh.{Entity, Parts, name, bounds, isObject, ownerOf, entOf, partsOf}
 use Rattle.paper.specs.Sound.{nameOfRow, residesWell, ownedWell}
 use Rattle.paper.specs.Placement.{Placement, spread, rowsFor, placesOf, residenceIn}

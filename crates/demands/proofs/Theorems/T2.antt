@@ -2,21 +2,18 @@
 -- Assumes nothing.
 use Prim.Native.Nat.{ℕ, _^_, _<_, _≤_}
 use native.Mathlib.Omega.{arith}
-use mathlib.Core.Path.{_∙_, subst}
+use mathlib.Core.Path.{subst}
 use mathlib.Core.List.{[]}
 use lib.ListN.{length, getD}
 use Rattle.paper.specs.Image.{Set, imageOf}
 use Rattle.paper.specs.Mesh.{Parts}
 use Rattle.paper.specs.Sound.{maxImage}
 use Rattle.paper.specs.Placement.{spread, rowsFor, imageFor}
-use Rattle.demands.proofs.Theorems.Statements.{T2, T3}
+use Rattle.demands.proofs.Theorems.Statements.{T2}
 use Rattle.demands.proofs.Rows.Few.{rows-few}
-use Rattle.demands.proofs.Fit.Record.{Fit}
-use Rattle.demands.proofs.Mesh.ToFit.{spread-fit, spread-mesh, spread-places}
-use Rattle.demands.proofs.Mesh.Spread.{spread-length}
-use Rattle.demands.proofs.Rows.Made.{rows-count}
-use Rattle.demands.proofs.Fit.Rows.{in-rows, parts-back}
-use Rattle.demands.proofs.Fit.ToSound.{fit-sound, fit-bytes}
+use Rattle.demands.proofs.Mesh.ToFit.{spread-fit}
+use Rattle.demands.proofs.Fit.Rows.{in-rows}
+use Rattle.demands.proofs.Fit.ToSound.{fit-sound}
 use Rattle.demands.proofs.Sound.Facts.{sound-accepts}
 
 -- the rows of a part of an image that is not too long: a slot has 32 bits

@@ -1,23 +1,17 @@
 -- T3: the image of a mesh and a placement holds them, where it is not too long.
 -- Assumes nothing.
-use Prim.Native.Nat.{ℕ, _^_, _<_, _≤_}
-use native.Mathlib.Omega.{arith}
-use mathlib.Core.Path.{_∙_, subst}
+use Prim.Native.Nat.{ℕ, _^_, _<_}
+use mathlib.Core.Path.{_∙_}
 use mathlib.Core.List.{[]}
 use lib.ListN.{length, getD}
-use Rattle.paper.specs.Image.{Set, imageOf}
-use Rattle.paper.specs.Mesh.{Parts}
-use Rattle.paper.specs.Sound.{maxImage}
-use Rattle.paper.specs.Placement.{spread, rowsFor, imageFor}
-use Rattle.demands.proofs.Theorems.Statements.{T2, T3}
-use Rattle.demands.proofs.Rows.Few.{rows-few}
+use Rattle.paper.specs.Placement.{spread, imageFor}
+use Rattle.demands.proofs.Theorems.Statements.{T3}
 use Rattle.demands.proofs.Fit.Record.{Fit}
 use Rattle.demands.proofs.Mesh.ToFit.{spread-fit, spread-mesh, spread-places}
 use Rattle.demands.proofs.Mesh.Spread.{spread-length}
 use Rattle.demands.proofs.Rows.Made.{rows-count}
-use Rattle.demands.proofs.Fit.Rows.{in-rows, parts-back}
-use Rattle.demands.proofs.Fit.ToSound.{fit-sound, fit-bytes}
-use Rattle.demands.proofs.Sound.Facts.{sound-accepts}
+use Rattle.demands.proofs.Fit.Rows.{parts-back}
+use Rattle.demands.proofs.Fit.ToSound.{fit-bytes}
 use Rattle.demands.proofs.Theorems.T2.{part-few}
 
 pub theorem-3 : T3
