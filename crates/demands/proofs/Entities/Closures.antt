@@ -21,7 +21,7 @@ module _ (es : List Entity) (c : Closed es) (u : Uniq es) where
   self-at zero o p = inl (ap (λ (z : ℕ). nameOf z (o .number)) p)
   self-at (suc d) o p = inl (ap (λ (z : ℕ). nameOf z (o .number)) p)
 
-  pub closure-self : (o : Entity) → In (name o) (closureOf es o)
+  closure-self : (o : Entity) → In (name o) (closureOf es o)
   closure-self o = self-at (o .dim) o refl
 
   -- what is in the closure of an entity above the vertices is itself or in the closure of a face

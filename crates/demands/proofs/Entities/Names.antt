@@ -24,7 +24,7 @@ pub in-holds : (es : List Entity) (e : Entity) → In e es → T (holds es (name
 unfolding holds
 in-holds es e i = in-member (name e) (map name es) (in-map name es e i)
 
-pub named-in : (es : List Entity) (k : ℕ) → T (holds es k) → In (entNamed es k) es × (name (entNamed es k) ≡ k)
+named-in : (es : List Entity) (k : ℕ) → T (holds es k) → In (entNamed es k) es × (name (entNamed es k) ≡ k)
 unfolding entNamed
 named-in es k t =
     let w = holds-in es k t in

@@ -37,13 +37,13 @@ same-self e =
     (eqb-refl (name e), eqb-refl (e .kind), eqb-refl (e .value), same-refl (e .shape))
 
 -- the remote slot of a row is the entity's place there
-pub remote-is : (ps : Parts) (p q : ℕ) (e : Entity) → In q (others (residenceIn ps (name e)) p) → remoteSlot (rowFor ps p e) p q ≡ slotIn (getD ps q []) (name e)
+remote-is : (ps : Parts) (p q : ℕ) (e : Entity) → In q (others (residenceIn ps (name e)) p) → remoteSlot (rowFor ps p e) p q ≡ slotIn (getD ps q []) (name e)
 unfolding remoteSlot rowFor
 remote-is ps p q e i =
     let m = residenceIn ps (name e) in
     read-at (λ q. slotIn (getD ps q []) (name e)) (others m p) (others-ascends m p) q i
 
-pub names-of : (ps : Parts) (q : ℕ) → map nameOfRow (getD (rowsFor ps) q []) ≡ map name (getD ps q [])
+names-of : (ps : Parts) (q : ℕ) → map nameOfRow (getD (rowsFor ps) q []) ≡ map name (getD ps q [])
 unfolding rowFor
 names-of ps q = ap (map nameOfRow) (rows-part ps q) ∙ map-of-map nameOfRow (rowFor ps q) (getD ps q [])
 

@@ -40,7 +40,7 @@ none-res n m (r ∷ rs) h e = absurd (h r (inl refl))
 
 module _ (ps : Parts) (F : Fit ps) (few : (p : ℕ) → length (getD ps p []) < 2 ^ 32) where
   -- a row above k is that of an entity with k on its boundary
-  pub record Above (k : ℕ) (a : Row) : Type 0 where
+  record Above (k : ℕ) (a : Row) : Type 0 where
     pub part : ℕ
     pub above : Entity
     pub there : In above (getD ps part [])

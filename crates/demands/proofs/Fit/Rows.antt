@@ -21,7 +21,7 @@ use Rattle.laws.proofs.Members.{getD-in, every-in, in-every, part-lt}
 use Rattle.demands.proofs.Entities.Names.{in-holds}
 use Rattle.part_set.proofs.MaskBits.{has-maskOf}
 use Rattle.part_set.proofs.MaskParts.{maskOf-lt, has-lt}
-use Rattle.demands.proofs.Rows.Bodies.{longs-back}
+use Rattle.demands.proofs.Rows.Bytes.{longs-back}
 use Rattle.demands.proofs.Rows.ReadBack.{standing, shape-back}
 use Rattle.demands.proofs.Entities.Fits.{FacesOk, faces-of}
 use Rattle.demands.proofs.Rows.Made.{rows-count, rows-part}
@@ -64,7 +64,7 @@ pub record Coords (shape : List ℕ) : Type 0 where
   pub small : T (every (λ x. ltb x (2 ^ 64)) shape)
   pub finites : T (every finite shape)
 
-pub coords-of : (es : List Entity) (shape : List ℕ) → T (shapeFits es 0 shape) → Coords shape
+coords-of : (es : List Entity) (shape : List ℕ) → T (shapeFits es 0 shape) → Coords shape
 unfolding shapeFits
 coords-of es shape t =
     let s = split2 (eqb (length shape) 3) (every (λ x. ltb x (2 ^ 64) && finite x) shape) t in

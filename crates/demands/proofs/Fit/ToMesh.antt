@@ -32,7 +32,7 @@ module _ (ps : Parts) (F : Fit ps) where
   unfolding meshOf
   mesh-in e i = flat-in ps e (sort-in (flat ps) e i)
 
-  pub mesh-ascends : T (ascending (map name (meshOf ps)))
+  mesh-ascends : T (ascending (map name (meshOf ps)))
   unfolding meshOf
   mesh-ascends = sort-ascends (flat ps)
 

@@ -21,7 +21,8 @@ use Rattle.paper.proofs.Codec.{Wide}
 use Rattle.demands.proofs.Fit.Record.{Fit}
 use Rattle.demands.proofs.Rows.Made.{rows-count, rows-part}
 use Rattle.demands.proofs.Fit.Rows.{rowsIn, in-rows, row-at, parts-back}
-use Rattle.demands.proofs.Fit.Fields.{bytes-of, bytes-append, bytes-flat, row-wide, row-fields, row-bytes}
+use Rattle.demands.proofs.Rows.Bytes.{bytes-of, bytes-append, bytes-flat}
+use Rattle.demands.proofs.Fit.Fields.{row-wide, row-fields, row-bytes}
 use Rattle.demands.proofs.Fit.Order.{row-ordered, row-boundary}
 use Rattle.demands.proofs.Fit.Copies.{row-copies}
 use Rattle.demands.proofs.Fit.Residence.{row-resides}

@@ -16,7 +16,8 @@ use Rattle.paper.specs.Image.{Set, imageOf, walkParts, rowAt}
 use Rattle.paper.specs.Sound.{maxImage, fieldsFit, ordered, boundaryStands, copiesAgree, residesWell, ownedWell, soundOf}
 use Rattle.laws.proofs.Tests.{split3, join3}
 use Rattle.paper.proofs.Outcomes.{then-inv, bind-inv, must-inv, accepted-inj}
-use Rattle.demands.proofs.Rows.Faults.{rows-inv, rows-ok, must-ok, get-inv, then-ok, bind-ok}
+use Rattle.demands.proofs.Rows.Faults.{rows-inv, rows-ok}
+use Rattle.demands.proofs.Rows.Outcomes.{must-ok, get-inv, then-ok, bind-ok}
 use Rattle.paper.proofs.Codec.{Wide, Walk, parts-walk, parts-back, head-is}
 use Rattle.laws.proofs.Same.{same-eq}
 use Rattle.paper.proofs.RowForth.{bytes-drop}

@@ -53,7 +53,7 @@ in-part S p s h =
     subst (λ (l : List Entity). In (ent S p s) l) (sym (parts-at S p)) (in-map (entOf (getD S p [])) (getD S p []) (row S p s) (getD-in (getD S p []) s noRow h))
 
 -- the names of a part are those of its rows
-pub part-names : (S : Set) (p : ℕ) → map name (getD (partsOf S) p []) ≡ map nameOfRow (getD S p [])
+part-names : (S : Set) (p : ℕ) → map name (getD (partsOf S) p []) ≡ map nameOfRow (getD S p [])
 unfolding entOf
 part-names S p = ap (map name) (parts-at S p) ∙ map-of-map name (entOf (getD S p [])) (getD S p [])
 
@@ -76,7 +76,7 @@ pub record FieldsOk (n p : ℕ) (r : Row) : Type 0 where
   pub value : T (valueFits (r .kind) (r .value))
   pub body : T (bodyFits (r .dim) (r .body))
 
-pub fields-of : (n p : ℕ) (r : Row) → T (fieldsFit n p r) → FieldsOk n p r
+fields-of : (n p : ℕ) (r : Row) → T (fieldsFit n p r) → FieldsOk n p r
 unfolding fieldsFit
 fields-of n p r t =
     let s = split8 (leb (r .dim) 3) (ltb (r .owner) n) (leb (r .kind) 2) (eqb (r .pad) 0) (ltb (r .mask) (2 ^ n)) (has (r .mask) p) (valueFits (r .kind) (r .value)) (bodyFits (r .dim) (r .body)) t in
@@ -92,7 +92,7 @@ fields-of n p r t =
     }
 
 -- entities that are the same by the test are equal, where their numbers have 32 bits
-pub same-ent : (e f : Entity) → e .number < 2 ^ 32 → f .number < 2 ^ 32 → T (sameEnt e f) → e ≡ f
+same-ent : (e f : Entity) → e .number < 2 ^ 32 → f .number < 2 ^ 32 → T (sameEnt e f) → e ≡ f
 unfolding sameEnt
 same-ent e f he hf t =
     let s = split4 (eqb (name e) (name f)) (eqb (e .kind) (f .kind)) (eqb (e .value) (f .value)) (same (e .shape) (f .shape)) t in

@@ -22,7 +22,7 @@ use Rattle.part_set.proofs.MaskBits.{has-maskOf}
 use Rattle.laws.proofs.Ascending.{asc-map, asc-getD, only-one}
 use Rattle.part_set.proofs.MaskParts.{has-lt, in-partsIn}
 use Rattle.paper.proofs.Codec.{length-words}
-use Rattle.demands.proofs.Rows.Bodies.{length-longs, longs-small}
+use Rattle.demands.proofs.Rows.Bytes.{length-longs, longs-small}
 use Rattle.demands.proofs.Entities.Fits.{EntOk, of-faces}
 use Rattle.demands.proofs.Fit.Record.{Fit}
 use Rattle.demands.proofs.Sound.Facts.{Copied, Sound}
@@ -34,7 +34,7 @@ pub record SlotsOk (rows : List Row) (d : ℕ) (fs : List ℕ) : Type 0 where
   pub ascends : T (ascending fs)
   pub there : (t : ℕ) → In t fs → (t < length rows) × (getD rows t noRow .dim ≡ d)
 
-pub slots-of : (rows : List Row) (r : Row) (d : ℕ) → r .dim ≡ suc d → T (slotsStand rows r) → SlotsOk rows d (words (suc (suc d)) (r .body))
+slots-of : (rows : List Row) (r : Row) (d : ℕ) → r .dim ≡ suc d → T (slotsStand rows r) → SlotsOk rows d (words (suc (suc d)) (r .body))
 unfolding slotsStand slotsOf ascending
 slots-of rows r d e t =
     let fs = words (suc (suc d)) (r .body) in
@@ -67,7 +67,7 @@ in-above S k q t h b =
     in-flat-map (λ rows. keep (λ r. bounds k (entOf rows r)) rows) S rows (getD rows t noRow) (getD-in S q [] (part-lt S q (getD rows t noRow) i))
     (in-keep (λ r. bounds k (entOf rows r)) rows (getD rows t noRow) i b)
 
-pub res-some : (n m : ℕ) (rs : List Row) (a : Row) → In a rs → T (residence n m rs) → m ≡ maskOf n (λ q. some? (λ a. has (a .mask) q) rs)
+res-some : (n m : ℕ) (rs : List Row) (a : Row) → In a rs → T (residence n m rs) → m ≡ maskOf n (λ q. some? (λ a. has (a .mask) q) rs)
 unfolding residence
 res-some n m [] a i t = absurd i
 res-some n m (r ∷ rs) a i t = eqb→eq m (maskOf n (λ q. some? (λ a. has (a .mask) q) (r ∷ rs))) t

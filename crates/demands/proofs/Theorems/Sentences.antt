@@ -33,10 +33,10 @@ use Rattle.demands.proofs.Theorems.Now.{Now}
 -- ---- any accepted image
 
 module _ (b : List ℕ) (S : Set) (y : T (areBytes b)) (a : Accepts b S) where
-  pub is-sound : Sound S
+  is-sound : Sound S
   is-sound = sound-inv b S y a .0
 
-  pub is-fit : Fit (partsOf S)
+  is-fit : Fit (partsOf S)
   is-fit = sound-fit S is-sound
 
   -- order, slots, residence sets and owners follow from the entities of each part
