@@ -73,3 +73,24 @@ unfolding every
 every-map g P Q f [] t = tt
 every-map g P Q f (k ∷ ks) t =
     both (Q (g k)) (every Q (map g ks)) (f k (and-l (P k) (every P ks) t)) (every-map g P Q f ks (and-r (P k) (every P ks) t))
+
+-- ---- tests of what `map` gives
+
+pub every-of-map : {A B : Type 0} (f : B → Bool) (g : A → B) (xs : List A) → every f (map g xs) ≡ every (λ x. f (g x)) xs
+unfolding every
+every-of-map f g [] = refl
+every-of-map f g (x ∷ xs) = ap (λ (b : Bool). f (g x) && b) (every-of-map f g xs)
+
+pub some-of-map : {A B : Type 0} (f : B → Bool) (g : A → B) (xs : List A) → some? f (map g xs) ≡ some? (λ x. f (g x)) xs
+unfolding some?
+some-of-map f g [] = refl
+some-of-map f g (x ∷ xs) = ap (λ (b : Bool). f (g x) || b) (some-of-map f g xs)
+
+pub keep-of-map : {A B : Type 0} (f : B → Bool) (g : A → B) (xs : List A) → keep f (map g xs) ≡ map g (keep (λ x. f (g x)) xs)
+unfolding keep
+keep-of-map f g [] = refl
+keep-of-map {A} {B} f g (x ∷ xs) = go (f (g x)) (keep-of-map f g xs)
+  where
+    go : (b : Bool) → keep f (map g xs) ≡ map g (keep (λ x. f (g x)) xs) → cond b (g x ∷ keep f (map g xs)) (keep f (map g xs)) ≡ map g (cond b (x ∷ keep (λ x. f (g x)) xs) (keep (λ x. f (g x)) xs))
+    go true e = ap (λ (l : List B). g x ∷ l) e
+    go false e = e

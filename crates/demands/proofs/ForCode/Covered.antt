@@ -1,4 +1,7 @@
--- Rule 11, the objects and their counts by what is on a boundary in its own part: for code that keeps one bit a row.
+-- Rule 11, the objects and their counts in a form that costs a row O(1): by rows that some row of their own part has on its boundary.
+-- How code uses it: after rules 7 to 10 one pass over the rows sets a bit at each slot that a body names; a row is covered where its bit is set.
+-- Rule 11 is then "in one part, or covered in every part of its set" (`resides-covered`). After rule 11 a row is an object exactly where it is not
+-- covered (`row-object`), and a part's objects, for rule 12, are its rows that are not (`part-objects`).
 -- Assumes nothing.
 use Prim.Native.Nat.{ℕ, _^_, _<_}
 use native.Mathlib.Omega.{arith}
@@ -22,11 +25,12 @@ use Rattle.part_set.proofs.MaskParts.{has-lt, maskOf-lt, partsIn-in, in-partsIn
 use Rattle.demands.proofs.Entities.Closed.{Closed, closed-down}
 use Rattle.demands.proofs.Entities.Fits.{EntOk, fits-closed}
 use Rattle.demands.proofs.Fit.Record.{Fit}
-use Rattle.demands.proofs.Sound.Facts.{Copied}
-use Rattle.demands.proofs.Sound.Rows.{ent, part-in, in-part, row-fields, held-has, has-in, row}
-use Rattle.demands.proofs.Sound.ToFit.{above-in, in-above, ent-ok, small-part}
+use Rattle.demands.proofs.Sound.Facts.{Copied, Each}
+use Rattle.demands.proofs.Sound.Rows.{ent, part-in, in-part, row-fields, held-has, has-in, row, parts-at}
+use Rattle.demands.proofs.Sound.ToFit.{above-in, in-above, ent-ok, small-part, resided-fit}
 use Rattle.demands.proofs.Fit.Residence.{some-res}
-use Rattle.laws.proofs.Agree.{keep-agree}
+use Rattle.laws.proofs.Agree.{keep-agree, some-of-map, keep-of-map}
+use lib.ListN.{length-map}
 
 -- some row of part q has k on its boundary
 unfoldable pub covered : Set → ℕ → ℕ → Bool
@@ -165,3 +169,28 @@ module _ (ps : Parts) (F : Fit ps) where
   unfolding objectsIn
   objects-uncovered p =
       ap length (keep-agree (λ e. isObject (flat ps) (name e)) (λ e. not (some? (bounds (name e)) (getD ps p []))) (getD ps p []) (object-uncovered p))
+
+-- ---- objects, for a set that passes rules 7 to 11
+
+covered-part : (S : Set) (p k : ℕ) → some? (bounds k) (getD (partsOf S) p []) ≡ covered S p k
+unfolding covered
+covered-part S p k = ap (some? (bounds k)) (parts-at S p) ∙ some-of-map (bounds k) (entOf (getD S p [])) (getD S p [])
+
+module _ (S : Set) (f : Copied S) (resides : Each S (λ p s. T (residesWell S p s))) where
+  -- a row is an object exactly where no row of its part has it on its boundary
+  pub row-object : (p s : ℕ) → s < length (getD S p []) → isObject (flat (partsOf S)) (nameOfRow (rowAt S p s)) ≡ not (covered S p (nameOfRow (rowAt S p s)))
+  unfolding rowAt entOf
+  row-object p s h =
+      object-uncovered (partsOf S) (resided-fit S f resides) p (ent S p s) (in-part S p s h) ∙ ap not (covered-part S p (name (ent S p s)))
+
+  -- and the objects of a part are counted so
+  pub part-objects : (p : ℕ) → objectsIn (partsOf S) p ≡ length (keep (λ r. not (covered S p (nameOfRow r))) (getD S p []))
+  unfolding entOf
+  part-objects p =
+      let rows = getD S p [] in
+      let open′ : Entity → Bool = λ e. not (some? (bounds (name e)) (getD (partsOf S) p [])) in
+      objects-uncovered (partsOf S) (resided-fit S f resides) p
+      ∙ ap (λ (es : List Entity). length (keep open′ es)) (parts-at S p)
+      ∙ ap length (keep-of-map open′ (entOf rows) rows)
+      ∙ length-map (keep (λ r. open′ (entOf rows r)) rows) (entOf rows)
+      ∙ ap length (keep-agree (λ r. open′ (entOf rows r)) (λ r. not (covered S p (nameOfRow r))) rows (λ r _. ap not (covered-part S p (nameOfRow r))))

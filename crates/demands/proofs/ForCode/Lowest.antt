@@ -1,5 +1,7 @@
--- "Every part that holds the entity is in the set", without a search in every part: where all twins agree it is enough that two rows
--- which are each the lowest copy of their set do not have one name.
+-- Rule 10 in a form that costs a row O(1): no search in every part for "every part that holds the entity is in the set".
+-- How code uses it: after rules 7 and 8 it tests each row's twins (O(1) each, through the remote slots). Rows that are the lowest copy of their
+-- set are then merged by name over the parts; where no two of them have one name, `copies-by-lowest` gives rule 10 for every row. Otherwise the
+-- set is refused, and the exact scan finds the place.
 -- Assumes nothing.
 use Prim.Native.Nat.{ℕ, _<_, _≤_}
 use mathlib.Core.Path.{_≡_, refl, sym, ap, _∙_, subst}
@@ -13,7 +15,7 @@ use Rattle.part_set.specs.Masks.{has, partsIn, others}
 use Rattle.paper.specs.Image.{Set, noRow, rowAt}
 use Rattle.paper.specs.Mesh.{name, sameEnt, entOf}
 use Rattle.paper.specs.Sound.{nameOfRow, remoteSlot, twinAgrees}
-use Rattle.laws.proofs.Tests.{split4, split5, decide, or-l, or-r, eq-eqb}
+use Rattle.laws.proofs.Tests.{split4, split5, decide, or-l, or-r, eq-eqb, both}
 use Rattle.laws.proofs.Members.{every-in, in-every, member-in, map-in, in-getD}
 use Rattle.laws.proofs.Agree.{getD-map}
 use Rattle.laws.proofs.Ascending.{least}
@@ -21,18 +23,28 @@ use Rattle.laws.proofs.Places.{index-getD}
 use Rattle.part_set.proofs.MaskParts.{partsIn-in, in-partsIn, partsIn-ascends, in-others}
 use Rattle.demands.proofs.Sound.Facts.{Each}
 use Rattle.demands.proofs.Sound.Rows.{row}
+use Rattle.paper.specs.Sound.{copiesAgree}
 
-module _ (S : Set) (few : length S ≤ 64) (own : Each S (λ p s. (p < 64) × T (has (row S p s .mask) p)))
-    (ascends : (p : ℕ) → T (ascending (map nameOfRow (getD S p []))))
+-- the row is the lowest copy of its set
+abbrev pub Low : Set → ℕ → ℕ → Type 0
+Low S p s = (q : ℕ) → In q (partsIn (row S p s .mask)) → p ≤ q
+
+-- the copy of a row in the part q of its set, which may be the row itself
+pub record Copy (S : Set) (p s q : ℕ) : Type 0 where
+  pub slot : ℕ
+  pub there : slot < length (getD S q [])
+  pub named : nameOfRow (row S q slot) ≡ nameOfRow (row S p s)
+  pub masked : row S q slot .mask ≡ row S p s .mask
+
+pub record LowCopy (S : Set) (p s : ℕ) : Type 0 where
+  pub part : ℕ
+  pub copied : Copy S p s part
+  pub low : Low S part (copied .slot)
+
+-- own bits are there (7), names ascend (8), and all twins agree (the first half of 10)
+module _ (S : Set) (own : Each S (λ p s. (p < 64) × T (has (row S p s .mask) p))) (ascends : (p : ℕ) → T (ascending (map nameOfRow (getD S p []))))
     (twins : Each S (λ p s. T (every (twinAgrees S p s) (others (row S p s .mask) p)))) where
-  -- the copy of a row in the part q of its set, which may be the row itself
-  pub record Copy (p s q : ℕ) : Type 0 where
-    pub slot : ℕ
-    pub there : slot < length (getD S q [])
-    pub named : nameOfRow (row S q slot) ≡ nameOfRow (row S p s)
-    pub masked : row S q slot .mask ≡ row S p s .mask
-
-  twin-copy : (p s q : ℕ) → s < length (getD S p []) → In q (others (row S p s .mask) p) → Copy p s q
+  twin-copy : (p s q : ℕ) → s < length (getD S p []) → In q (others (row S p s .mask) p) → Copy S p s q
   unfolding twinAgrees rowAt sameEnt entOf
   twin-copy p s q h i =
       let r = row S p s in
@@ -50,23 +62,14 @@ module _ (S : Set) (few : length S ≤ 64) (own : Each S (λ p s. (p < 64) × T 
         masked = sym (eqb→eq (r .mask) (w .mask) (a .2));
       }
 
-  copy : (p s q : ℕ) → s < length (getD S p []) → q < 64 → T (has (row S p s .mask) q) → Copy p s q
+  copy : (p s q : ℕ) → s < length (getD S p []) → q < 64 → T (has (row S p s .mask) q) → Copy S p s q
   copy p s q h l t = go (decide (eqb q p))
     where
-      go : T (eqb q p) ⊎ T (not (eqb q p)) → Copy p s q
-      go (inl e) = subst (Copy p s) (sym (eqb→eq q p e)) (record { slot = s; there = h; named = refl; masked = refl })
+      go : T (eqb q p) ⊎ T (not (eqb q p)) → Copy S p s q
+      go (inl e) = subst (Copy S p s) (sym (eqb→eq q p e)) (record { slot = s; there = h; named = refl; masked = refl })
       go (inr n) = twin-copy p s q h (in-others (row S p s .mask) p q l t (λ e. T-not (eqb q p) n (eq-eqb q p e)))
 
-  -- the row is the lowest copy of its set
-  abbrev pub Low : ℕ → ℕ → Type 0
-  Low p s = (q : ℕ) → In q (partsIn (row S p s .mask)) → p ≤ q
-
-  pub record LowCopy (p s : ℕ) : Type 0 where
-    pub part : ℕ
-    pub copied : Copy p s part
-    pub low : Low part (copied .slot)
-
-  low-copy : (p s : ℕ) → s < length (getD S p []) → LowCopy p s
+  low-copy : (p s : ℕ) → s < length (getD S p []) → LowCopy S p s
   low-copy p s h =
       let m = row S p s .mask in
       let o = own p s h in
@@ -85,7 +88,8 @@ module _ (S : Set) (few : length S ≤ 64) (own : Each S (λ p s. (p < 64) × T 
       ∙ index-getD (map nameOfRow rows) (ascends p) i (subst (λ (z : ℕ). i < z) (sym n) h) in
       sym (at s hs) ∙ ap (λ (k : ℕ). indexOf k (map nameOfRow rows)) e ∙ at t ht
 
-  module _ (distinct : (p s q t : ℕ) → s < length (getD S p []) → t < length (getD S q []) → Low p s → Low q t
+  -- and no two lowest copies have one name
+  module _ (distinct : (p s q t : ℕ) → s < length (getD S p []) → t < length (getD S q []) → Low S p s → Low S q t
       → nameOfRow (row S p s) ≡ nameOfRow (row S q t) → p ≡ q) where
     same-mask : (p s q t : ℕ) → s < length (getD S p []) → t < length (getD S q []) → nameOfRow (row S p s) ≡ nameOfRow (row S q t)
         → row S p s .mask ≡ row S q t .mask
@@ -120,3 +124,11 @@ module _ (S : Set) (few : length S ≤ 64) (own : Each S (λ p s. (p < 64) × T 
             let e : nameOfRow r ≡ nameOfRow (row S q (v .0)) = w .2 ∙ ap nameOfRow (v .2) in
             or-r (not (member (nameOfRow r) (map nameOfRow (getD S q [])))) (has (r .mask) q)
             (subst (λ (m : ℕ). T (has m q)) (sym (same-mask p s q (v .0) h (v .1) e)) (own q (v .0) (v .1) .1))
+
+    -- the whole of it
+    pub copies-by-lowest : Each S (λ p s. T (copiesAgree S p s))
+    unfolding copiesAgree rowAt
+    copies-by-lowest p s h =
+        let r = row S p s in
+        both (every (twinAgrees S p s) (others (r .mask) p)) (every (λ q. not (member (nameOfRow r) (map nameOfRow (getD S q []))) || has (r .mask) q) (upTo (length S)))
+        (twins p s h) (every-holder p s h)

@@ -104,6 +104,25 @@ same-ent e f he hf t =
     let sh = same-eq (e .shape) (f .shape) (s .3) in
     λ i. record { dim = d i; number = k i; kind = kd i; value = v i; shape = sh i }
 
+-- ---- rule 8: the names of a part's rows ascend
+
+step-up : (rows : List Row) → ((s : ℕ) → s < length rows → T (ordered rows s)) → (s : ℕ) → suc s < length (map nameOfRow rows)
+    → getD (map nameOfRow rows) s 0 < getD (map nameOfRow rows) (suc s) 0
+unfolding ordered
+step-up rows o s h =
+    let n = length-map rows nameOfRow in
+    omega (
+      arith,
+      getD-map nameOfRow rows s noRow 0 (omega (arith, n)),
+      getD-map nameOfRow rows (suc s) noRow 0 (omega (arith, n)),
+      ltb→lt (nameOfRow (getD rows s noRow)) (nameOfRow (getD rows (suc s) noRow)) (o (suc s) (omega (arith, n))),
+    )
+
+pub rows-ascend : (rows : List Row) → ((s : ℕ) → s < length rows → T (ordered rows s)) → T (ascending (map nameOfRow rows))
+rows-ascend rows o = asc-adjacent (map nameOfRow rows) (step-up rows o)
+
+-- ---- rule 10, in plain propositions
+
 -- the copy of row s of part p in part q: the same entity with the same residence set and owner, and it names this row's slot back
 pub record Twin (S : Set) (p s q : ℕ) : Type 0 where
   pub slot : remoteSlot (row S p s) p q < length (getD S q [])
@@ -127,22 +146,9 @@ module _ (S : Set) (f : Copied S) where
   unfolding entOf
   number-lt p s h = row-wide p s h .row .number
 
-  -- rule 8: names ascend
-  step-up : (rows : List Row) → ((s : ℕ) → s < length rows → T (ordered rows s)) → (s : ℕ) → suc s < length (map nameOfRow rows)
-      → getD (map nameOfRow rows) s 0 < getD (map nameOfRow rows) (suc s) 0
-  unfolding ordered
-  step-up rows o s h =
-      let n = length-map rows nameOfRow in
-      omega (
-        arith,
-        getD-map nameOfRow rows s noRow 0 (omega (arith, n)),
-        getD-map nameOfRow rows (suc s) noRow 0 (omega (arith, n)),
-        ltb→lt (nameOfRow (getD rows s noRow)) (nameOfRow (getD rows (suc s) noRow)) (o (suc s) (omega (arith, n))),
-      )
-
   pub names-ascend : (p : ℕ) → T (ascending (map name (getD (partsOf S) p [])))
   names-ascend p =
-      subst (λ (l : List ℕ). T (ascending l)) (sym (part-names S p)) (asc-adjacent (map nameOfRow (getD S p [])) (step-up (getD S p []) (f .order p)))
+      subst (λ (l : List ℕ). T (ascending l)) (sym (part-names S p)) (rows-ascend (getD S p []) (f .order p))
 
   -- the slot of a row is its name's place
   pub slot-is : (p s : ℕ) → s < length (getD S p []) → slotIn (getD (partsOf S) p []) (name (ent S p s)) ≡ s

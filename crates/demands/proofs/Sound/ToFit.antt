@@ -25,7 +25,7 @@ use Rattle.paper.proofs.Codec.{length-words}
 use Rattle.demands.proofs.Rows.Bytes.{length-longs, longs-small}
 use Rattle.demands.proofs.Entities.Fits.{EntOk, of-faces}
 use Rattle.demands.proofs.Fit.Record.{Fit}
-use Rattle.demands.proofs.Sound.Facts.{Copied, Sound}
+use Rattle.demands.proofs.Sound.Facts.{Copied, Sound, Each}
 use Rattle.demands.proofs.Sound.Rows.{ent, parts-at, parts-count, part-in, in-part, name-at, names-count, row-fields, row-wide, number-lt, names-ascend, held-has, has-in, agree, row}
 
 -- ---- rule 9: the slots of a boundary
@@ -155,10 +155,10 @@ module _ (S : Set) (f : Copied S) where
   pub small-part : (p : ℕ) (e : Entity) → In e (getD (partsOf S) p []) → p < 64
   small-part p e i = omega (arith, part-lt (partsOf S) p e i, parts-count S, f .few-parts)
 
-module _ (S : Set) (f : Sound S) where
+module _ (S : Set) (f : Copied S) (r : Each S (λ p s. T (residesWell S p s))) where
   row-residence : (p s : ℕ) → s < length (getD S p []) → T (residence (length S) (row S p s .mask) (rowsAbove S (name (ent S p s))))
   unfolding residesWell rowAt entOf
-  row-residence p s h = f .residence p s h
+  row-residence p s h = r p s h
 
   -- what is on a boundary is on that of an entity of some part, with its row
   once-at : (p q s : ℕ) → s < length (getD S p []) → In (ent S p s) (getD (partsOf S) q []) → T (isObject (flat (partsOf S)) (name (ent S p s))) → p ≡ q
@@ -169,8 +169,8 @@ module _ (S : Set) (f : Sound S) where
       let one = res-none (length S) m (rowsAbove S k) (λ a i.
       let w = above-in S k a i in
       not-object (flat (partsOf S)) k (ent S (w .0) (w .1)) (in-flat (partsOf S) (w .0) (ent S (w .0) (w .1)) (in-part S (w .0) (w .1) (w .2))) (w .4) t) (row-residence p s h) in
-      only-one (partsIn m) one p q (in-partsIn m p (small-part S (f .copied) p (ent S p s) (in-part S p s h)) (row-fields S (f .copied) p s h .own))
-      (in-partsIn m q (small-part S (f .copied) q (ent S p s) j) (held-has S (f .copied) p s q h (in-holds (getD (partsOf S) q []) (ent S p s) j)))
+      only-one (partsIn m) one p q (in-partsIn m p (small-part S f p (ent S p s) (in-part S p s h)) (row-fields S f p s h .own))
+      (in-partsIn m q (small-part S f q (ent S p s) j) (held-has S f p s q h (in-holds (getD (partsOf S) q []) (ent S p s) j)))
 
   resides-at : (p s : ℕ) → s < length (getD S p []) → T (isObject (flat (partsOf S)) (name (ent S p s))) ⊎ ((g : Entity) × In g (getD (partsOf S) p []) × T (bounds (name (ent S p s)) g))
   resides-at p s h = go (object-or (flat (partsOf S)) (name (ent S p s)))
@@ -185,22 +185,23 @@ module _ (S : Set) (f : Sound S) where
           let w = part-in S (v .0) (g .0) (v .2) in
           let i = in-above S k (v .0) (w .0) (w .1) (subst (λ (x : Entity). T (bounds k x)) (w .2) (g .2)) in
           let union = res-some (length S) m (rowsAbove S k) (row S (v .0) (w .0)) i (row-residence p s h) in
-          let own = row-fields S (f .copied) p s h .own in
-          let l : p < length S = has-lt (length S) m p (row-fields S (f .copied) p s h .mask) own in
+          let own = row-fields S f p s h .own in
+          let l : p < length S = has-lt (length S) m p (row-fields S f p s h .mask) own in
           let t : T (some? (λ a. has (a .mask) p) (rowsAbove S k)) =
           subst T (ap (λ (z : ℕ). has z p) union ∙ has-maskOf (length S) p (λ q. some? (λ a. has (a .mask) q) (rowsAbove S k)) l) own in
           let a = some-in (λ a. has (a .mask) p) (rowsAbove S k) t in
           let b = above-in S k (a .0) (a .1) in
-          inr (ent S (b .0) (b .1), has-in S (f .copied) (b .0) (b .1) p (b .2) (subst (λ (r : Row). T (has (r .mask) p)) (b .3) (a .2)), b .4)
+          inr (ent S (b .0) (b .1), has-in S f (b .0) (b .1) p (b .2) (subst (λ (x : Row). T (has (x .mask) p)) (b .3) (a .2)), b .4)
 
-  pub sound-fit : Fit (partsOf S)
-  sound-fit =
+  -- rules 7 to 11 are enough
+  pub resided-fit : Fit (partsOf S)
+  resided-fit =
       record {
-        some-part = subst (λ (n : ℕ). 0 < n) (sym (parts-count S)) (f .copied .some-part);
-        few-parts = subst (λ (n : ℕ). n ≤ 64) (sym (parts-count S)) (f .copied .few-parts);
-        ascends = names-ascend S (f .copied);
-        agree = agree S (f .copied);
-        fits = λ p e i. let w = part-in S p e i in subst (EntOk (getD (partsOf S) p [])) (sym (w .2)) (ent-ok S (f .copied) p (w .0) (w .1));
+        some-part = subst (λ (n : ℕ). 0 < n) (sym (parts-count S)) (f .some-part);
+        few-parts = subst (λ (n : ℕ). n ≤ 64) (sym (parts-count S)) (f .few-parts);
+        ascends = names-ascend S f;
+        agree = agree S f;
+        fits = λ p e i. let w = part-in S p e i in subst (EntOk (getD (partsOf S) p [])) (sym (w .2)) (ent-ok S f p (w .0) (w .1));
         once = λ p q e i j t.
             let w = part-in S p e i in
             once-at p q (w .0) (w .1) (subst (λ (x : Entity). In x (getD (partsOf S) q [])) (w .2) j) (subst (λ (x : Entity). T (isObject (flat (partsOf S)) (name x))) (w .2) t);
@@ -208,3 +209,6 @@ module _ (S : Set) (f : Sound S) where
             let w = part-in S p e i in
             subst (λ (x : Entity). T (isObject (flat (partsOf S)) (name x)) ⊎ ((g : Entity) × In g (getD (partsOf S) p []) × T (bounds (name x) g))) (sym (w .2)) (resides-at p (w .0) (w .1));
       }
+
+pub sound-fit : (S : Set) → Sound S → Fit (partsOf S)
+sound-fit S f = resided-fit S (f .copied) (f .residence)
