@@ -94,3 +94,8 @@ keep-of-map {A} {B} f g (x ∷ xs) = go (f (g x)) (keep-of-map f g xs)
     go : (b : Bool) → keep f (map g xs) ≡ map g (keep (λ x. f (g x)) xs) → cond b (g x ∷ keep f (map g xs)) (keep f (map g xs)) ≡ map g (cond b (x ∷ keep (λ x. f (g x)) xs) (keep (λ x. f (g x)) xs))
     go true e = ap (λ (l : List B). g x ∷ l) e
     go false e = e
+
+pub pairwise-of-map : {A B : Type 0} (f : B → B → Bool) (g : A → B) (xs : List A) → pairwise f (map g xs) ≡ pairwise (λ x y. f (g x) (g y)) xs
+unfolding pairwise
+pairwise-of-map f g [] = refl
+pairwise-of-map f g (x ∷ xs) = ap₂ _&&_ (every-of-map (f (g x)) g xs) (pairwise-of-map f g xs)

@@ -34,7 +34,7 @@ pub record SlotsOk (rows : List Row) (d : ℕ) (fs : List ℕ) : Type 0 where
   pub ascends : T (ascending fs)
   pub there : (t : ℕ) → In t fs → (t < length rows) × (getD rows t noRow .dim ≡ d)
 
-slots-of : (rows : List Row) (r : Row) (d : ℕ) → r .dim ≡ suc d → T (slotsStand rows r) → SlotsOk rows d (words (suc (suc d)) (r .body))
+pub slots-of : (rows : List Row) (r : Row) (d : ℕ) → r .dim ≡ suc d → T (slotsStand rows r) → SlotsOk rows d (words (suc (suc d)) (r .body))
 unfolding slotsStand slotsOf ascending
 slots-of rows r d e t =
     let fs = words (suc (suc d)) (r .body) in
