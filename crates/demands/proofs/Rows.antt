@@ -1,4 +1,4 @@
--- Rows and their bytes: bodies, rows made of parts, tests of each row and of each entry.
+-- Rows, their bytes and their tests: bodies, rows that parts make, first faults.
 pub mod Bytes
 pub mod Bodies
 pub mod ReadBack

@@ -1,10 +1,10 @@
 -- Rule 11 of the rows that fitting parts make: an object is in one part, any other entity where what it bounds is.
 -- Assumes nothing.
 use Prim.Native.Nat.{ℕ, _^_, _<_}
-use mathlib.Core.Path.{_≡_, refl, sym, ap, _∙_, subst, subst₂}
+use mathlib.Core.Path.{_≡_, sym, ap, _∙_, subst, subst₂}
 use mathlib.Core.Bool.{Bool}
 use mathlib.Core.Logic.{_⊎_, inl, inr}
-use mathlib.Core.List.{List, [], _∷_}
+use mathlib.Core.List.{[]}
 use lib.ListN.{length, getD}
 use lib.Dec.{T}
 use Rattle.laws.specs.Lists.{In, some?, flat}
@@ -13,7 +13,6 @@ use Rattle.paper.specs.Image.{Row, rowAt}
 use Rattle.paper.specs.Mesh.{Entity, Parts, name, noEnt, bounds, isObject}
 use Rattle.paper.specs.Sound.{nameOfRow, rowsAbove, residence, residesWell}
 use Rattle.paper.specs.Placement.{residenceIn, rowFor, rowsFor}
-use Rattle.laws.proofs.Tests.{eq-eqb}
 use Rattle.laws.proofs.Members.{getD-in, in-getD, in-flat, some-in, in-some}
 use Rattle.demands.proofs.Entities.Names.{not-object}
 use Rattle.part_set.proofs.MaskBits.{maskOf-is}
@@ -22,21 +21,11 @@ use Rattle.part_set.proofs.MaskParts.{partsIn-in, partsIn-ascends}
 use Rattle.demands.proofs.Fit.Record.{Fit}
 use Rattle.demands.proofs.Rows.Made.{rows-count}
 use Rattle.demands.proofs.Sound.Rows.{ent, row}
-use Rattle.demands.proofs.Sound.ToFit.{above-in, in-above}
+use Rattle.demands.proofs.Sound.Above.{above-in, in-above, some-res, none-res}
 use Rattle.demands.proofs.Fit.Rows.{in-rows, row-at, ent-at, residence-lt, has-residence, residence-holds, holds-residence}
 use Rattle.demands.proofs.Fit.Fields.{own-bit}
 use Rattle.demands.proofs.Fit.Held.{in-held, part-closed}
 use Rattle.demands.proofs.Entities.Closed.{closed-down}
-
-pub some-res : (n m : ℕ) (rs : List Row) (a : Row) → In a rs → m ≡ maskOf n (λ q. some? (λ a. has (a .mask) q) rs) → T (residence n m rs)
-unfolding residence
-some-res n m [] a i e = absurd i
-some-res n m (r ∷ rs) a i e = eq-eqb m (maskOf n (λ q. some? (λ a. has (a .mask) q) (r ∷ rs))) e
-
-none-res : (n m : ℕ) (rs : List Row) → ((a : Row) → In a rs → ⊥) → count m ≡ 1 → T (residence n m rs)
-unfolding residence
-none-res n m [] h e = eq-eqb (count m) 1 e
-none-res n m (r ∷ rs) h e = absurd (h r (inl refl))
 
 module _ (ps : Parts) (F : Fit ps) (few : (p : ℕ) → length (getD ps p []) < 2 ^ 32) where
   -- a row above k is that of an entity with k on its boundary

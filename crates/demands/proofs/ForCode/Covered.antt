@@ -27,8 +27,8 @@ use Rattle.demands.proofs.Entities.Fits.{EntOk, fits-closed}
 use Rattle.demands.proofs.Fit.Record.{Fit}
 use Rattle.demands.proofs.Sound.Facts.{Copied, Each}
 use Rattle.demands.proofs.Sound.Rows.{ent, part-in, in-part, row-fields, held-has, has-in, row, parts-at}
-use Rattle.demands.proofs.Sound.ToFit.{above-in, in-above, ent-ok, small-part, resided-fit}
-use Rattle.demands.proofs.Fit.Residence.{some-res}
+use Rattle.demands.proofs.Sound.Above.{above-in, in-above, some-res}
+use Rattle.demands.proofs.Sound.ToFit.{ent-ok, small-part, resided-fit}
 use Rattle.laws.proofs.Agree.{keep-agree, some-of-map, keep-of-map}
 use lib.ListN.{length-map}
 

@@ -24,7 +24,7 @@ use Rattle.laws.proofs.Keyed.{ascends-uniq}
 use Rattle.laws.proofs.Increasing.{unions-in, map-unions, same-after, member-after, keep-others-after}
 use Rattle.demands.proofs.Entities.Names.{Uniq}
 use Rattle.demands.proofs.Entities.Closed.{look}
-use Rattle.demands.proofs.Sound.ToFit.{slots-of}
+use Rattle.demands.proofs.Sound.Slots.{slots-of}
 
 -- ---- vertices and simplices by slots
 

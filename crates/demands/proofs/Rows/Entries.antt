@@ -1,4 +1,4 @@
--- What it says of a range that a test has no first fault in it, or that a fault was found.
+-- Entries of a list that are not refused pass the test (refusals 13 to 16).
 -- Assumes nothing.
 use Prim.Native.Nat.{ℕ, _<_}
 use mathlib.Core.Path.{_≡_, refl}
@@ -12,7 +12,6 @@ use Rattle.paper.specs.Move.{allEntries, entriesMust}
 use Rattle.paper.proofs.Outcomes.{not-refused}
 use Rattle.laws.proofs.FirstBad.{none-bad}
 
--- entries that are not refused pass the test
 pub entries-inv : (k : ℕ) (l : List ℕ) (ok : ℕ → Bool) (u : Unit {0}) → entriesMust k l ok ≡ accepted u → (i : ℕ) → i < allEntries l → T (ok i)
 unfolding entriesMust unless
 entries-inv k l ok u e = none-bad ok (allEntries l) (go (firstBad ok (upTo (allEntries l))) e)

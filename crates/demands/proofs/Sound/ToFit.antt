@@ -3,20 +3,20 @@
 use Prim.Native.Nat.{ℕ, zero, suc, _^_, _<_, _≤_}
 use native.Mathlib.Omega.{arith}
 use mathlib.Core.Path.{_≡_, refl, sym, ap, _∙_, subst}
-use mathlib.Core.Bool.{Bool, _&&_}
+use mathlib.Core.Bool.{_&&_}
 use mathlib.Core.Logic.{_⊎_, inl, inr}
-use mathlib.Core.List.{List, [], _∷_, map}
+use mathlib.Core.List.{List, [], map}
 use lib.ListN.{length, getD, length-map}
-use lib.Dec.{T, eqb, ltb, ltb→lt, eqb→eq}
-use Rattle.laws.specs.Lists.{In, every, some?, keep, flat, pairwise, ascending}
+use lib.Dec.{T, eqb, ltb}
+use Rattle.laws.specs.Lists.{In, every, some?, flat}
 use Rattle.field.specs.Bytes.{words, longs}
-use Rattle.part_set.specs.Masks.{has, partsIn, count, maskOf}
+use Rattle.part_set.specs.Masks.{has, partsIn, count}
 use Rattle.paper.specs.Image.{Row, Set, noRow, rowAt}
 use Rattle.paper.specs.Mesh.{Entity, nameOf, name, bounds, isObject, slotsOf, shapeOf, entOf, partsOf, holds, simplex}
 use Rattle.paper.specs.Sound.{finite, bodyFits, slotsStand, boundaryStands, rowsAbove, residence, residesWell}
 use Rattle.paper.specs.Placement.{shapeFits}
 use Rattle.laws.proofs.Tests.{split2, both, eq-eqb}
-use Rattle.laws.proofs.Members.{getD-in, in-getD, keep-in, in-keep, map-in, every-in, in-every, some-in, in-flat, flat-in, part-lt, flat-map-in, in-flat-map}
+use Rattle.laws.proofs.Members.{map-in, every-in, in-every, some-in, in-flat, flat-in, part-lt}
 use Rattle.demands.proofs.Entities.Names.{in-holds, not-object, object-or}
 use Rattle.part_set.proofs.MaskBits.{has-maskOf}
 use Rattle.laws.proofs.Ascending.{asc-map, asc-getD, only-one}
@@ -27,57 +27,8 @@ use Rattle.demands.proofs.Entities.Fits.{EntOk, of-faces}
 use Rattle.demands.proofs.Fit.Record.{Fit}
 use Rattle.demands.proofs.Sound.Facts.{Copied, Sound, Each}
 use Rattle.demands.proofs.Sound.Rows.{ent, parts-at, parts-count, part-in, in-part, name-at, names-count, row-fields, row-wide, number-lt, names-ascend, held-has, has-in, agree, row}
-
--- ---- rule 9: the slots of a boundary
-
-pub record SlotsOk (rows : List Row) (d : ℕ) (fs : List ℕ) : Type 0 where
-  pub ascends : T (ascending fs)
-  pub there : (t : ℕ) → In t fs → (t < length rows) × (getD rows t noRow .dim ≡ d)
-
-pub slots-of : (rows : List Row) (r : Row) (d : ℕ) → r .dim ≡ suc d → T (slotsStand rows r) → SlotsOk rows d (words (suc (suc d)) (r .body))
-unfolding slotsStand slotsOf ascending
-slots-of rows r d e t =
-    let fs = words (suc (suc d)) (r .body) in
-    let ok : ℕ → ℕ → Bool = λ k f. ltb f (length rows) && eqb (suc (getD rows f noRow .dim)) k in
-    let s = split2 (every (ok (suc d)) fs) (pairwise ltb fs) (subst (λ (k : ℕ). T (every (ok k) (slotsOf k (r .body)) && pairwise ltb (slotsOf k (r .body)))) e t) in
-    record {
-      ascends = s .1;
-      there = λ f i.
-          let w = split2 (ltb f (length rows)) (eqb (suc (getD rows f noRow .dim)) (suc d)) (every-in (ok (suc d)) fs (s .0) f i) in
-          let q = eqb→eq (suc (getD rows f noRow .dim)) (suc d) (w .1) in
-          (ltb→lt f (length rows) (w .0), omega (arith, q));
-    }
-
--- ---- rule 11: what is above an entity
-
-pub above-in : (S : Set) (k : ℕ) (a : Row) → In a (rowsAbove S k) → (q : ℕ) × (t : ℕ) × (t < length (getD S q [])) × (a ≡ row S q t) × T (bounds k (ent S q t))
-unfolding rowsAbove
-above-in S k a i =
-    let w = flat-map-in (λ rows. keep (λ r. bounds k (entOf rows r)) rows) S a i in
-    let v = in-getD S (w .0) [] (w .1) in
-    let j = keep-in (λ r. bounds k (entOf (getD S (v .0) []) r)) (getD S (v .0) []) a (subst (λ (rows : List Row). In a (keep (λ r. bounds k (entOf rows r)) rows)) (v .2) (w .2)) in
-    let g = in-getD (getD S (v .0) []) a noRow (j .0) in
-    (v .0, g .0, g .1, g .2, subst (λ (r : Row). T (bounds k (entOf (getD S (v .0) []) r))) (g .2) (j .1))
-
-pub in-above : (S : Set) (k q t : ℕ) → t < length (getD S q []) → T (bounds k (ent S q t)) → In (row S q t) (rowsAbove S k)
-unfolding rowsAbove
-in-above S k q t h b =
-    let rows = getD S q [] in
-    let i = getD-in rows t noRow h in
-    in-flat-map (λ rows. keep (λ r. bounds k (entOf rows r)) rows) S rows (getD rows t noRow) (getD-in S q [] (part-lt S q (getD rows t noRow) i))
-    (in-keep (λ r. bounds k (entOf rows r)) rows (getD rows t noRow) i b)
-
-res-some : (n m : ℕ) (rs : List Row) (a : Row) → In a rs → T (residence n m rs) → m ≡ maskOf n (λ q. some? (λ a. has (a .mask) q) rs)
-unfolding residence
-res-some n m [] a i t = absurd i
-res-some n m (r ∷ rs) a i t = eqb→eq m (maskOf n (λ q. some? (λ a. has (a .mask) q) (r ∷ rs))) t
-
-res-none : (n m : ℕ) (rs : List Row) → ((a : Row) → In a rs → ⊥) → T (residence n m rs) → count m ≡ 1
-unfolding residence
-res-none n m [] h t = eqb→eq (count m) 1 t
-res-none n m (r ∷ rs) h t = absurd (h r (inl refl))
-
--- ---- the parts fit
+use Rattle.demands.proofs.Sound.Slots.{SlotsOk, slots-of}
+use Rattle.demands.proofs.Sound.Above.{above-in, in-above, res-some, res-none}
 
 module _ (S : Set) (f : Copied S) where
   pub row-slots : (p s d : ℕ) → s < length (getD S p []) → row S p s .dim ≡ suc d
