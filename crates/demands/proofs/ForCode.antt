@@ -1,3 +1,4 @@
--- Laws that code cites: the rules 10, 11 and 12 in a form that costs a row O(1).
+-- Laws that code cites: rules 9 to 12 in forms that cost a row O(1).
 pub mod Covered
 pub mod Lowest
+pub mod Slots

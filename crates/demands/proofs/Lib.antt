@@ -1,3 +1,4 @@
+-- Theorems about the definitions of crate paper. A reader begins with Theorems (its Statements, Demand2, Demand3); the groups before it are the way.
 pub mod Entities
 pub mod Rows
 pub mod Sound

@@ -1,7 +1,9 @@
--- Rows and their bytes: bodies, rows made of parts, tests of each row and of each entry.
+-- Rows, their bytes and their tests: bodies, rows that parts make, first faults.
+pub mod Bytes
 pub mod Bodies
 pub mod ReadBack
 pub mod Made
 pub mod Few
+pub mod Outcomes
 pub mod Faults
 pub mod Entries

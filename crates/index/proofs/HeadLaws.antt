@@ -9,8 +9,7 @@ use lib.ListN.{length, getD, take}
 use lib.Dec.{T, leb, ltb, eqb, leb→le, ltb→lt}
 use borrow.Author.Tests.{le-leb, lt-leb, eq-eqb, ne-eqb, leb-true, eqb-true}
 use Rattle.laws.specs.Lists.{same}
-use Rattle.laws.proofs.Tests.{split3}
-use Rattle.laws.proofs.Members.{true-T}
+use Rattle.laws.proofs.Tests.{split3, true-T}
 use Rattle.field.specs.Bytes.{u8At, u16At}
 use Rattle.paper.specs.Sound.{maxImage}
 use Rattle.index.specs.Head.{marked, partsCounted, headNumber}

@@ -8,11 +8,11 @@ use mathlib.Core.List.{List, [], _∷_}
 use lib.ListN.{length, getD, take, drop}
 use lib.Seq.{getD-drop, getD-take, drop-drop}
 use Rattle.laws.specs.Lists.{keep, upTo}
-use Rattle.laws.proofs.Members.{length-upTo}
 use Rattle.field.specs.Bytes.{u8At, u16At, u32At, u64At, words, longs}
 use Rattle.part_set.specs.Masks.{has, partsIn, count}
 use Rattle.paper.specs.Image.{Row, remotes, rowLength, rowIn}
 use Rattle.index.specs.Index.{rowFrom}
+use Rattle.laws.proofs.Ranges.{length-upTo}
 
 -- ---- a number in what is left of the bytes, and in the first n of them
 

@@ -1,17 +1,18 @@
--- Lists of numbers in strictly ascending order, and the places of their members.
+-- Lists of numbers in strictly ascending order.
 -- Assumes nothing.
-use Prim.Native.Nat.{ℕ, zero, suc, _+_, _<_, _≤_, suc-le-suc}
+use Prim.Native.Nat.{ℕ, zero, suc, _<_, _≤_, suc-le-suc}
 use native.Mathlib.Nat.{not-suc-le-zero, le-of-suc-le-suc, zero-lt-suc}
 use native.Mathlib.Omega.{arith}
-use mathlib.Core.Path.{_≡_, refl, sym, ap, ap₂, _∙_, subst}
+use mathlib.Core.Path.{_≡_, refl, sym, ap, _∙_, subst}
 use mathlib.Core.Bool.{Bool, true, false, cond, not}
-use mathlib.Core.Logic.{_⊎_, inl, inr}
+use mathlib.Core.Logic.{inl, inr}
 use mathlib.Core.List.{List, [], _∷_, map}
 use lib.ListN.{length, getD}
-use lib.Dec.{T, ltb, eqb, ltb→lt, lt→ltb, eqb→eq, eqb-refl, not-T}
-use Rattle.laws.specs.Lists.{In, every, keep, pairwise, ascending, from, upTo, indexOf}
-use Rattle.laws.proofs.Tests.{and-l, and-r, both}
-use Rattle.laws.proofs.Members.{T-true, every-in, in-every, keep-in, map-in, getD-in, in-getD, map-same}
+use lib.Dec.{T, ltb, eqb, ltb→lt, lt→ltb, eqb-refl}
+use Rattle.laws.specs.Lists.{In, every, keep, pairwise, ascending}
+use Rattle.laws.proofs.Tests.{and-l, and-r, both, T-true, ne-eqb, ne-T}
+use Rattle.laws.proofs.Members.{every-in, in-every, keep-in, map-in, getD-in}
+use Rattle.laws.proofs.Agree.{keep-all}
 
 pub asc-head : (x : ℕ) (xs : List ℕ) → T (ascending (x ∷ xs)) → (q : ℕ) → In q xs → x < q
 unfolding ascending pairwise
@@ -37,21 +38,6 @@ asc-keep f (x ∷ xs) t = go (f x) (asc-keep f xs (asc-tail x xs t))
     go : (b : Bool) → T (ascending (keep f xs)) → T (ascending (cond b (x ∷ keep f xs) (keep f xs)))
     go true s = asc-cons x (keep f xs) (λ q i. asc-head x xs t q (keep-in f xs q i .0)) s
     go false s = s
-
-from-above : (i n q : ℕ) → In q (from (suc i) n) → i < q
-unfolding from
-from-above i zero q j = absurd j
-from-above i (suc n) q (inl p) = omega arith
-from-above i (suc n) q (inr j) = omega (arith, from-above (suc i) n q j)
-
-asc-from : (i n : ℕ) → T (ascending (from i n))
-unfolding from
-asc-from i zero = asc-nil
-asc-from i (suc n) = asc-cons i (from (suc i) n) (from-above i n) (asc-from (suc i) n)
-
-pub asc-upTo : (n : ℕ) → T (ascending (upTo n))
-unfolding upTo
-asc-upTo n = asc-from 0 n
 
 -- each below the next
 pub asc-adjacent : (xs : List ℕ) → ((s : ℕ) → suc s < length xs → getD xs s 0 < getD xs (suc s) 0) → T (ascending xs)
@@ -85,61 +71,7 @@ asc-map g (x ∷ xs) h t =
     asc-cons (g x) (map g xs) (λ q i. let w = map-in g xs q i in omega (arith, h x (w .0) (inl refl) (inr (w .1)) (asc-head x xs t (w .0) (w .1)), w .2))
     (asc-map g xs (λ a b i j. h a b (inr i) (inr j)) (asc-tail x xs t))
 
--- ---- places
-
-pub ne-eqb : (a b : ℕ) → (a ≡ b → ⊥) → eqb a b ≡ false
-ne-eqb a b h = go (eqb a b) (λ t. h (eqb→eq a b t))
-  where
-    go : (c : Bool) → (T c → ⊥) → c ≡ false
-    go true f = absurd (f tt)
-    go false f = refl
-
-index-head : (x : ℕ) (xs : List ℕ) → indexOf x (x ∷ xs) ≡ 0
-unfolding indexOf
-index-head x xs = ap (λ (b : Bool). cond b 0 (suc (indexOf x xs))) (T-true (eqb x x) (eqb-refl x))
-
-index-tail : (q x : ℕ) (xs : List ℕ) → (q ≡ x → ⊥) → indexOf q (x ∷ xs) ≡ suc (indexOf q xs)
-unfolding indexOf
-index-tail q x xs h = ap (λ (b : Bool). cond b 0 (suc (indexOf q xs))) (ne-eqb q x h)
-
-pub index-getD : (xs : List ℕ) → T (ascending xs) → (i : ℕ) → i < length xs → indexOf (getD xs i 0) xs ≡ i
-index-getD [] t i h = absurd (not-suc-le-zero h)
-index-getD (x ∷ xs) t zero h = index-head x xs
-index-getD (x ∷ xs) t (suc i) h =
-    let l : x < getD xs i 0 = asc-head x xs t (getD xs i 0) (getD-in xs i 0 (le-of-suc-le-suc h)) in
-    index-tail (getD xs i 0) x xs (λ p. omega (arith, l, p)) ∙ ap suc (index-getD xs (asc-tail x xs t) i (le-of-suc-le-suc h))
-
--- a list as long as xs, read at the places of xs
-pub read-places : (xs ys : List ℕ) → T (ascending xs) → length ys ≡ length xs → map (λ q. getD ys (indexOf q xs) 0) xs ≡ ys
-read-places [] [] t n = refl
-read-places [] (y ∷ ys) t n = absurd (omega (arith, n))
-read-places (x ∷ xs) [] t n = absurd (omega (arith, n))
-read-places (x ∷ xs) (y ∷ ys) t n =
-    ap₂ {C = List ℕ} (λ (a : ℕ) (l : List ℕ). a ∷ l) (ap (λ (i : ℕ). getD (y ∷ ys) i 0) (index-head x xs))
-    (map-same (λ q. getD (y ∷ ys) (indexOf q (x ∷ xs)) 0) (λ q. getD ys (indexOf q xs) 0) xs
-    (λ q i. ap (λ (j : ℕ). getD (y ∷ ys) j 0) (index-tail q x xs (λ p. omega (arith, asc-head x xs t q i, p))))
-    ∙ read-places xs ys (asc-tail x xs t) (omega (arith, n)))
-
-pub read-at : (g : ℕ → ℕ) (xs : List ℕ) → T (ascending xs) → (q : ℕ) → In q xs → getD (map g xs) (indexOf q xs) 0 ≡ g q
-read-at g [] t q i = absurd i
-read-at g (x ∷ xs) t q (inl p) =
-    ap (λ (k : ℕ). getD (map g (x ∷ xs)) (indexOf k (x ∷ xs)) 0) p ∙ ap (λ (j : ℕ). getD (map g (x ∷ xs)) j 0) (index-head x xs) ∙ ap g (sym p)
-read-at g (x ∷ xs) t q (inr i) =
-    ap (λ (j : ℕ). getD (map g (x ∷ xs)) j 0) (index-tail q x xs (λ p. omega (arith, asc-head x xs t q i, p))) ∙ read-at g xs (asc-tail x xs t) q i
-
 -- ---- one left out
-
-keep-all : (f : ℕ → Bool) (xs : List ℕ) → ((q : ℕ) → In q xs → T (f q)) → keep f xs ≡ xs
-unfolding keep
-keep-all f [] h = refl
-keep-all f (x ∷ xs) h = go (f x) (h x (inl refl)) (keep-all f xs (λ q i. h q (inr i)))
-  where
-    go : (b : Bool) → T b → keep f xs ≡ xs → cond b (x ∷ keep f xs) (keep f xs) ≡ x ∷ xs
-    go true t e = ap (λ (l : List ℕ). x ∷ l) e
-    go false t e = absurd t
-
-pub ne-T : (a b : ℕ) → (a ≡ b → ⊥) → T (not (eqb a b))
-ne-T a b h = not-T (eqb a b) (λ t. h (eqb→eq a b t))
 
 pub left-out : (p : ℕ) (xs : List ℕ) → T (ascending xs) → In p xs → suc (length (keep (λ q. not (eqb q p)) xs)) ≡ length xs
 unfolding keep
@@ -167,3 +99,14 @@ one-only [] t p i h = absurd i
 one-only (x ∷ []) t p i h = refl
 one-only (x ∷ y ∷ ys) t p i h =
     absurd (omega (arith, asc-head x (y ∷ ys) t y (inl refl), h x (inl refl), h y (inr (inl refl))))
+
+-- ---- the least
+
+-- the least of a list that is not empty
+pub least : (xs : List ℕ) → T (ascending xs) → (p : ℕ) → In p xs → (q : ℕ) × In q xs × ((x : ℕ) → In x xs → q ≤ x)
+least [] t p i = absurd i
+least (x ∷ xs) t p i = (x, inl refl, le)
+  where
+    le : (y : ℕ) → In y (x ∷ xs) → x ≤ y
+    le y (inl e) = omega arith
+    le y (inr j) = omega (arith, asc-head x xs t y j)

@@ -10,8 +10,10 @@ use lib.ListN.{length}
 use lib.Dec.{T, T-not, eqb, ltb}
 use borrow.Author.Tests.{eq-eqb, ne-eqb, lt-ltb, le-ltb}
 use Rattle.laws.specs.Lists.{In, keep, ascending, indexOf}
-use Rattle.laws.proofs.Members.{keep-in, in-keep, in-getD, eq-eqb as eqb-T}
-use Rattle.laws.proofs.Ascending.{asc-head, asc-tail, asc-keep, index-getD, ne-T}
+use Rattle.laws.proofs.Members.{keep-in, in-keep, in-getD}
+use Rattle.laws.proofs.Ascending.{asc-head, asc-tail, asc-keep}
+use Rattle.laws.proofs.Places.{index-getD}
+use Rattle.laws.proofs.Tests.{ne-T, eq-eqb as eqb-T}
 
 heads : (x y : ℕ) (xs ys : List ℕ) → T (ascending (x ∷ xs)) → T (ascending (y ∷ ys)) → In x (y ∷ ys) → In y (x ∷ xs) → x ≡ y
 heads x y xs ys s t (inl e) j = e

@@ -10,7 +10,6 @@ use lib.Pow.{field}
 use lib.Ieee.{binary64, nanBits, ofBits, toBits}
 use lib.Ieee.Bits.{toBits-ofBits, nanBits-is}
 use borrow.Author.Tests.{eqb-false, eq-eqb, ne-eqb, not-true}
-use Rattle.laws.proofs.Members.{T-true}
 use Rattle.paper.specs.declared.Value.the-variants as value
 use Rattle.paper.specs.declared.Refusal.{Refusal}
 use Rattle.paper.specs.declared.CheckAnswer.{CheckAnswer}
@@ -22,9 +21,11 @@ use Rattle.paper.specs.declared.LookupAnswer.the-variants as lookup
 use Rattle.paper.specs.declared.BoxAnswer.{BoxAnswer}
 use Rattle.paper.specs.declared.BoxAnswer.the-variants as box
 use Rattle.paper.specs.Outcome.{Outcome, refused}
-use Rattle.paper.specs.Sound.{finite, valueFits}
+use Rattle.paper.specs.Sound.{valueFits}
 use Rattle.paper.specs.Answers.{placeOf, valueOf, sameValue, checkAnswer, migrateAnswer, lookupAnswer, boxAnswer}
 use Rattle.paper.proofs.Outcomes.{accepted-inj}
+use Rattle.laws.proofs.Tests.{T-true}
+use Rattle.field.specs.Bytes.{finite}
 
 -- ---- the answers
 

@@ -10,12 +10,11 @@ use lib.Dec.{T, eqb, eqb→eq, eqb·zero-suc, eqb·suc-zero, eqb·suc-suc, ltb, 
 use lib.Arith.{lt-one}
 use lib.Pow.{pow-lt, pow-pos}
 use lib.Bits.{bitOr}
-use Rattle.laws.proofs.Tests.{split2, join2}
-use Rattle.laws.proofs.Members.{decide, iff-eq, eq-eqb}
-use Rattle.laws.proofs.Ascending.{ne-T}
+use Rattle.laws.proofs.Tests.{split2, join2, decide, iff-eq, eq-eqb, ne-T}
 use Rattle.laws.proofs.Equal.{asc-ext}
 use Rattle.part_set.specs.Masks.{has, partsIn, others}
-use Rattle.part_set.proofs.MaskBits.{has-suc, has-or}
+use Rattle.part_set.proofs.MaskBits.{has-suc}
+use Rattle.part_set.proofs.MaskOps.{has-or}
 use Rattle.part_set.proofs.MaskParts.{has-lt, partsIn-in, in-partsIn, partsIn-ascends, others-in, in-others, others-ascends}
 
 -- the lowest bit is that of the remainder by 2

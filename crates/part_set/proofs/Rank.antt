@@ -11,12 +11,14 @@ use lib.Dec.{T, T-not, eqb, ltb, ltb→lt, lt→ltb}
 use lib.Pow.{pow-pos, field, mod-mod-pow}
 use lib.Count.{ones}
 use Rattle.laws.specs.Lists.{In, keep, upTo, ascending, indexOf}
-use Rattle.laws.proofs.Members.{keep-in, in-keep, upTo-in, in-upTo, length-upTo, eq-eqb}
-use Rattle.laws.proofs.Ascending.{asc-keep, asc-upTo, left-out, ne-T}
+use Rattle.laws.proofs.Members.{keep-in, in-keep}
+use Rattle.laws.proofs.Ascending.{asc-keep, left-out}
 use Rattle.laws.proofs.Equal.{asc-ext, keep-same, length-keep, index-below, index-in}
 use Rattle.part_set.specs.Masks.{has, others, count, rankOf}
-use Rattle.part_set.proofs.MaskBits.{count-from}
+use Rattle.part_set.proofs.MaskOps.{count-from}
 use Rattle.part_set.proofs.MaskParts.{others-in, in-others, others-ascends, others-count}
+use Rattle.laws.proofs.Ranges.{upTo-in, in-upTo, length-upTo, asc-upTo}
+use Rattle.laws.proofs.Tests.{eq-eqb, ne-T}
 
 -- ---- `u64::count_ones` of the remainder by 2 ^ p counts the parts below p
 

@@ -12,12 +12,12 @@ use lib.Dec.{T, eqb, lit<}
 use lib.Pow.{pow-pos}
 use lib.Count.{trailingZeros, under}
 use Rattle.laws.specs.Lists.{In, keep, from, upTo, ascending}
-use Rattle.laws.proofs.Members.{iff-eq}
 use Rattle.laws.proofs.Equal.{head-out}
 use Rattle.part_set.specs.Masks.{has, partsIn, others, count, lowestOf, Rest}
 use Rattle.part_set.proofs.MaskBits.{has-suc, mask-ext}
 use Rattle.part_set.proofs.MaskParts.{has-lt, partsIn-in, in-partsIn, partsIn-ascends}
 use Rattle.part_set.proofs.OnePart.{pow-le, parts-without}
+use Rattle.laws.proofs.Tests.{iff-eq}
 
 -- ---- `u64::trailing_zeros` is the least part
 

@@ -1,40 +1,19 @@
--- What is judged of an entity in a list that is closed under boundaries is judged the same in a larger list.
+-- Lists of entities that are closed under boundaries: what is judged of an entity in one is judged the same in a larger list.
 -- Assumes nothing.
-use Rattle.field.specs.Bytes.{finite}
-use Prim.Native.Nat.{ℕ, zero, suc, _+_, _*_, _^_, _<_, _≤_}
-use native.Mathlib.Omega.{arith}
+use Prim.Native.Nat.{ℕ, zero, suc, _+_, _^_, _<_, _≤_}
 use native.Mathlib.Nat.{not-suc-le-zero, le-of-suc-le-suc}
 use mathlib.Core.Path.{_≡_, refl, sym, ap, ap₂, _∙_, subst}
-use mathlib.Core.Bool.{Bool, true, false, _&&_, _||_, not}
-use mathlib.Core.Logic.{_⊎_, inl, inr}
-use mathlib.Core.List.{List, [], _∷_, map}
+use mathlib.Core.Bool.{Bool, _&&_, _||_, not}
+use mathlib.Core.List.{List, map}
 use lib.ListN.{length}
-use lib.Dec.{T, eqb, eqb→eq, ltb, leb, leb→le, ltb→lt, le→leb, lt→ltb}
-use Rattle.laws.specs.Lists.{In, every, some?, keep, pairwise, ascending, member, same, unions}
-use Rattle.paper.specs.Sound.{valueFits}
-use Rattle.paper.specs.Mesh.{Entity, nameOf, name, holds, entNamed, shapeIn, vertices, facesOf, shareEdges, simplex}
-use Rattle.paper.specs.Placement.{shapeFits, entFits}
-use Rattle.laws.proofs.Tests.{both, split2, split3, split7, join3, join7}
-use Rattle.laws.proofs.Members.{eq-eqb, map-same, every-in, in-every}
-use Rattle.demands.proofs.Entities.Names.{Uniq, holds-in, in-holds, named-is, name-dim, name-number}
+use lib.Dec.{T, eqb, ltb}
+use Rattle.laws.specs.Lists.{In, some?, keep, member, same, unions}
+use Rattle.paper.specs.Mesh.{Entity, nameOf, holds, shapeIn, vertices, facesOf, shareEdges, simplex}
+use Rattle.laws.proofs.Agree.{map-same, every-same, some-same, pairwise-same}
+use Rattle.demands.proofs.Entities.Names.{Uniq, holds-in, named-is, name-dim, name-number, bounds-in, vertex-bounds}
+use Rattle.paper.specs.Mesh.{bounds}
 
 -- ---- tests that agree on the members
-
-every-same : {A : Type 0} (f g : A → Bool) (xs : List A) → ((a : A) → In a xs → f a ≡ g a) → every f xs ≡ every g xs
-unfolding every
-every-same f g [] h = refl
-every-same f g (x ∷ xs) h = ap₂ _&&_ (h x (inl refl)) (every-same f g xs (λ a i. h a (inr i)))
-
-some-same : {A : Type 0} (f g : A → Bool) (xs : List A) → ((a : A) → In a xs → f a ≡ g a) → some? f xs ≡ some? g xs
-unfolding some?
-some-same f g [] h = refl
-some-same f g (x ∷ xs) h = ap₂ _||_ (h x (inl refl)) (some-same f g xs (λ a i. h a (inr i)))
-
-pairwise-same : {A : Type 0} (f g : A → A → Bool) (xs : List A) → ((a b : A) → In a xs → In b xs → f a b ≡ g a b) → pairwise f xs ≡ pairwise g xs
-unfolding pairwise
-pairwise-same f g [] h = refl
-pairwise-same f g (x ∷ xs) h =
-    ap₂ _&&_ (every-same (f x) (g x) xs (λ a i. h x a (inl refl) (inr i))) (pairwise-same f g xs (λ a b i j. h a b (inr i) (inr j)))
 
 -- ---- closed under boundaries
 
@@ -49,6 +28,16 @@ face-ent es c e d j i p m =
     let w = holds-in es (nameOf d j) (s .1) in
     let o = w .0 in
     (o, w .1, sym (name-dim d j (o .dim) (o .number) (s .0) (c .number o (w .1)) (w .2)), sym (name-number d j (o .dim) (o .number) (s .0) (c .number o (w .1)) (w .2)))
+
+-- a closed list holds the boundary of what it holds
+pub closed-down : (es : List Entity) → Closed es → (k : ℕ) (g : Entity) → In g es → T (bounds k g) → T (holds es k)
+closed-down es c k g i b = go (g .dim) refl
+  where
+    go : (d : ℕ) → g .dim ≡ d → T (holds es k)
+    go zero e = absurd (vertex-bounds k g e b)
+    go (suc d) e =
+        let w = bounds-in d k g e b in
+        subst (λ (z : ℕ). T (holds es z)) (sym (w .2)) (c .shape g d (w .0) i e (w .1) .1)
 
 pub look : (es : List Entity) → Uniq es → (d : ℕ) (e : Entity) → In e es → e .dim ≡ d → shapeIn es d (e .number) ≡ e .shape
 look es u d e i p =
@@ -110,107 +99,3 @@ module _ (sub big : List Entity) (c : Closed sub) (us : Uniq sub) (ub : Uniq big
 
   pub simplex-same : (o : Entity) → In o sub → o .dim ≤ 3 → simplex sub (o .dim) (o .number) (o .shape) ≡ simplex big (o .dim) (o .number) (o .shape)
   simplex-same o i h = simplex-at (o .dim) o i refl h
-
--- ---- an entity that fits, in plain propositions
-
-pub record EntOk (es : List Entity) (e : Entity) : Type 0 where
-  pub dim : e .dim ≤ 3
-  pub number : e .number < 2 ^ 32
-  pub kind : e .kind ≤ 2
-  pub value : e .value < 2 ^ 64
-  pub fits : T (valueFits (e .kind) (e .value))
-  pub shape : T (shapeFits es (e .dim) (e .shape))
-  pub simple : T (simplex es (e .dim) (e .number) (e .shape))
-
-pub ok-of : (es : List Entity) (e : Entity) → T (entFits es e) → EntOk es e
-unfolding entFits
-ok-of es e t =
-    let s = split7 (leb (e .dim) 3) (ltb (e .number) (2 ^ 32)) (leb (e .kind) 2) (ltb (e .value) (2 ^ 64)) (valueFits (e .kind) (e .value)) (shapeFits es (e .dim) (e .shape)) (simplex es (e .dim) (e .number) (e .shape)) t in
-    record {
-      dim = leb→le (e .dim) 3 (s .0);
-      number = ltb→lt (e .number) (2 ^ 32) (s .1);
-      kind = leb→le (e .kind) 2 (s .2);
-      value = ltb→lt (e .value) (2 ^ 64) (s .3);
-      fits = s .4;
-      shape = s .5;
-      simple = s .6;
-    }
-
-pub fits-of : (es : List Entity) (e : Entity) → EntOk es e → T (entFits es e)
-unfolding entFits
-fits-of es e k =
-    join7 (leb (e .dim) 3) (ltb (e .number) (2 ^ 32)) (leb (e .kind) 2) (ltb (e .value) (2 ^ 64)) (valueFits (e .kind) (e .value)) (shapeFits es (e .dim) (e .shape)) (simplex es (e .dim) (e .number) (e .shape))
-    (le→leb (e .dim) 3 (k .dim), lt→ltb (e .number) (2 ^ 32) (k .number), le→leb (e .kind) 2 (k .kind), lt→ltb (e .value) (2 ^ 64) (k .value), k .fits, k .shape, k .simple)
-
--- the boundary of an entity that fits
-pub record FacesOk (es : List Entity) (d : ℕ) (shape : List ℕ) : Type 0 where
-  pub count : length shape ≡ d + 2
-  pub ascends : T (ascending shape)
-  pub held : (j : ℕ) → In j shape → (j < 2 ^ 32) × T (holds es (nameOf d j))
-
-pub faces-of : (es : List Entity) (d : ℕ) (shape : List ℕ) → T (shapeFits es (suc d) shape) → FacesOk es d shape
-unfolding shapeFits
-faces-of es d shape t =
-    let s = split3 (eqb (length shape) (d + 2)) (ascending shape) (every (λ k. ltb k (2 ^ 32) && holds es (nameOf d k)) shape) t in
-    record {
-      count = eqb→eq (length shape) (d + 2) (s .0);
-      ascends = s .1;
-      held = λ j i. let h = split2 (ltb j (2 ^ 32)) (holds es (nameOf d j)) (every-in (λ k. ltb k (2 ^ 32) && holds es (nameOf d k)) shape (s .2) j i) in
-          (ltb→lt j (2 ^ 32) (h .0), h .1);
-    }
-
-pub of-faces : (es : List Entity) (d : ℕ) (shape : List ℕ) → FacesOk es d shape → T (shapeFits es (suc d) shape)
-unfolding shapeFits
-of-faces es d shape f =
-    join3 (eqb (length shape) (d + 2)) (ascending shape) (every (λ k. ltb k (2 ^ 32) && holds es (nameOf d k)) shape) (
-      eq-eqb (length shape) (d + 2) (f .count),
-      f .ascends,
-      in-every (λ k. ltb k (2 ^ 32) && holds es (nameOf d k)) shape
-          (λ j i. both (ltb j (2 ^ 32)) (holds es (nameOf d j)) (lt→ltb j (2 ^ 32) (f .held j i .0)) (f .held j i .1)),
-    )
-
--- entities that fit where they are make a closed list
-pub fits-closed : (es : List Entity) → ((e : Entity) → In e es → EntOk es e) → Closed es
-fits-closed es h =
-    record {
-      number = λ e i. h e i .number;
-      shape = λ e d j i p m. faces-of es d (e .shape) (subst (λ (z : ℕ). T (shapeFits es z (e .shape))) p (h e i .shape)) .held j m;
-    }
-
--- a shape that fits one list fits another that holds the boundary
-shape-moves : (es fs : List Entity) (d : ℕ) (shape : List ℕ) → T (shapeFits es d shape)
-    → ((c j : ℕ) → d ≡ suc c → In j shape → T (holds fs (nameOf c j))) → T (shapeFits fs d shape)
-unfolding shapeFits
-shape-moves es fs zero shape t h = t
-shape-moves es fs (suc d) shape t h =
-    let f = faces-of es d shape t in
-    of-faces fs d shape (record { count = f .count; ascends = f .ascends; held = λ j i. (f .held j i .0, h d j refl i) })
-
--- from the closed list to the larger, and back
-module _ (sub big : List Entity) (c : Closed sub) (us : Uniq sub) (ub : Uniq big) (inc : (e : Entity) → In e sub → In e big) where
-  sub-holds : (k : ℕ) → T (holds sub k) → T (holds big k)
-  sub-holds k t = let w = holds-in sub k t in subst (λ (z : ℕ). T (holds big z)) (sym (w .2)) (in-holds big (w .0) (inc (w .0) (w .1)))
-
-  pub ok-up : (e : Entity) → In e sub → EntOk sub e → EntOk big e
-  ok-up e i k =
-      record {
-        dim = k .dim;
-        number = k .number;
-        kind = k .kind;
-        value = k .value;
-        fits = k .fits;
-        shape = shape-moves sub big (e .dim) (e .shape) (k .shape) (λ d j p m. sub-holds (nameOf d j) (c .shape e d j i p m .1));
-        simple = subst T (simplex-same sub big c us ub inc e i (k .dim)) (k .simple);
-      }
-
-  pub ok-down : (e : Entity) → In e sub → EntOk big e → EntOk sub e
-  ok-down e i k =
-      record {
-        dim = k .dim;
-        number = k .number;
-        kind = k .kind;
-        value = k .value;
-        fits = k .fits;
-        shape = shape-moves big sub (e .dim) (e .shape) (k .shape) (λ d j p m. c .shape e d j i p m .1);
-        simple = subst T (sym (simplex-same sub big c us ub inc e i (k .dim))) (k .simple);
-      }

@@ -1,14 +1,15 @@
 -- The closures of the entities of a mesh that is closed under boundaries, and in which a name stands for one entity.
 -- Assumes nothing.
-use Prim.Native.Nat.{ℕ, zero, suc, _+_, _*_, _^_, _<_, _≤_}
+use Prim.Native.Nat.{ℕ, zero, suc, _+_, _≤_}
 use native.Mathlib.Omega.{arith}
 use mathlib.Core.Path.{_≡_, refl, sym, ap, _∙_, subst}
 use mathlib.Core.Logic.{_⊎_, inl, inr}
-use mathlib.Core.List.{List, [], _∷_, map}
+use mathlib.Core.List.{List}
 use lib.Dec.{T}
-use Rattle.laws.specs.Lists.{In, flat}
+use Rattle.laws.specs.Lists.{In}
 use Rattle.paper.specs.Mesh.{Entity, nameOf, name, bounds, isObject, holds, shapeIn, closure}
-use Rattle.demands.proofs.Entities.Names.{Uniq, holds-in, in-holds, bounds-in, in-bounds, vertex-bounds, flat-map-in, in-flat-map, object-or}
+use Rattle.demands.proofs.Entities.Names.{Uniq, in-holds, bounds-in, in-bounds, vertex-bounds, name-dim}
+use Rattle.laws.proofs.Members.{flat-map-in, in-flat-map}
 use Rattle.demands.proofs.Entities.Closed.{Closed, face-ent, look}
 
 abbrev pub closureOf : List Entity → Entity → List ℕ
@@ -20,7 +21,7 @@ module _ (es : List Entity) (c : Closed es) (u : Uniq es) where
   self-at zero o p = inl (ap (λ (z : ℕ). nameOf z (o .number)) p)
   self-at (suc d) o p = inl (ap (λ (z : ℕ). nameOf z (o .number)) p)
 
-  pub closure-self : (o : Entity) → In (name o) (closureOf es o)
+  closure-self : (o : Entity) → In (name o) (closureOf es o)
   closure-self o = self-at (o .dim) o refl
 
   -- what is in the closure of an entity above the vertices is itself or in the closure of a face
@@ -116,7 +117,7 @@ module _ (es : List Entity) (c : Closed es) (u : Uniq es) where
         go (suc d) p =
             let w = bounds-in d (name e) f p b in
             let h = c .shape f d (w .0) j p (w .1) in
-            let same : e .dim ≡ d = Rattle.demands.proofs.Entities.Names.name-dim (e .dim) (e .number) d (w .0) (c .number e i) (h .0) (w .2) in
+            let same : e .dim ≡ d = name-dim (e .dim) (e .number) d (w .0) (c .number e i) (h .0) (w .2) in
             p ∙ ap suc (sym same)
 
     in-at : (fuel : ℕ) (e : Entity) → In e part → 4 ≤ e .dim + fuel → (o : Entity) × In o part × T (isObject es (name o)) × In (name e) (closureOf es o)

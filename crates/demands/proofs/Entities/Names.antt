@@ -1,15 +1,16 @@
 -- Entities by their names: what a list of entities holds, and the entity that a name stands for.
 -- Assumes nothing.
-use Prim.Native.Nat.{ℕ, zero, suc, _+_, _*_, _^_, _<_, _≤_}
+use Prim.Native.Nat.{ℕ, zero, suc, _^_, _<_}
 use native.Mathlib.Omega.{arith}
-use mathlib.Core.Path.{_≡_, refl, sym, ap, _∙_, subst}
-use mathlib.Core.Bool.{Bool, true, false, cond, _||_}
+use mathlib.Core.Path.{_≡_, sym, ap, subst}
+use mathlib.Core.Bool.{not}
 use mathlib.Core.Logic.{_⊎_, inl, inr}
-use mathlib.Core.List.{List, [], _∷_, map}
-use lib.Dec.{T, eqb, eqb→eq, eqb-refl}
-use Rattle.laws.specs.Lists.{In, some?, firstOr, flat, member}
+use mathlib.Core.List.{List, [], map}
+use lib.Dec.{T, eqb, eqb→eq, eqb-refl, T-not}
+use Rattle.laws.specs.Lists.{In, some?, firstOr, member}
 use Rattle.paper.specs.Mesh.{Entity, nameOf, name, faceNames, faces, bounds, isObject, holds, entNamed, noEnt}
-use Rattle.laws.proofs.Members.{in-some, some-in, map-in, in-map, member-in, in-member, iff-eq, in-left, in-right, in-either}
+use Rattle.laws.proofs.Members.{in-some, some-in, map-in, in-map, member-in, in-member, firstOr-in}
+use Rattle.laws.proofs.Tests.{iff-eq, decide}
 
 -- a name stands for one entity
 abbrev pub Uniq : List Entity → Type 0
@@ -23,17 +24,7 @@ pub in-holds : (es : List Entity) (e : Entity) → In e es → T (holds es (name
 unfolding holds
 in-holds es e i = in-member (name e) (map name es) (in-map name es e i)
 
-firstOr-in : {A : Type 0} (d : A) (f : A → Bool) (xs : List A) → T (some? f xs) → In (firstOr d f xs) xs × T (f (firstOr d f xs))
-unfolding some? firstOr
-firstOr-in d f [] t = absurd t
-firstOr-in {A} d f (x ∷ xs) t = go (f x) refl t (firstOr-in d f xs)
-  where
-    go : (b : Bool) → f x ≡ b → T (b || some? f xs) → (T (some? f xs) → In (firstOr d f xs) xs × T (f (firstOr d f xs)))
-        → In (cond b x (firstOr d f xs)) (x ∷ xs) × T (f (cond b x (firstOr d f xs)))
-    go true e s rest = (inl refl, subst T (sym e) tt)
-    go false e s rest = (inr (rest s .0), rest s .1)
-
-pub named-in : (es : List Entity) (k : ℕ) → T (holds es k) → In (entNamed es k) es × (name (entNamed es k) ≡ k)
+named-in : (es : List Entity) (k : ℕ) → T (holds es k) → In (entNamed es k) es × (name (entNamed es k) ≡ k)
 unfolding entNamed
 named-in es k t =
     let w = holds-in es k t in
@@ -70,36 +61,21 @@ vertex-bounds k f e t = member-in k [] (subst (λ (z : ℕ). T (member k (faceNa
 pub object-same : (es fs : List Entity) (k : ℕ) → ((e : Entity) → In e es → In e fs) → ((e : Entity) → In e fs → In e es) → isObject es k ≡ isObject fs k
 unfolding isObject
 object-same es fs k f g =
-    ap mathlib.Core.Bool.not (iff-eq (some? (bounds k) es) (some? (bounds k) fs)
+    ap not (iff-eq (some? (bounds k) es) (some? (bounds k) fs)
     (λ t. let w = some-in (bounds k) es t in in-some (bounds k) fs (w .0) (f (w .0) (w .1)) (w .2))
     (λ t. let w = some-in (bounds k) fs t in in-some (bounds k) es (w .0) (g (w .0) (w .1)) (w .2)))
 
 pub not-object : (es : List Entity) (k : ℕ) (f : Entity) → In f es → T (bounds k f) → T (isObject es k) → ⊥
 unfolding isObject
-not-object es k f i b t = lib.Dec.T-not (some? (bounds k) es) t (in-some (bounds k) es f i b)
+not-object es k f i b t = T-not (some? (bounds k) es) t (in-some (bounds k) es f i b)
 
 -- an object, or on the boundary of something
 pub object-or : (es : List Entity) (k : ℕ) → T (isObject es k) ⊎ ((f : Entity) × In f es × T (bounds k f))
 unfolding isObject
-object-or es k = go (Rattle.laws.proofs.Members.decide (some? (bounds k) es))
+object-or es k = go (decide (some? (bounds k) es))
   where
-    go : T (some? (bounds k) es) ⊎ T (mathlib.Core.Bool.not (some? (bounds k) es)) → T (mathlib.Core.Bool.not (some? (bounds k) es)) ⊎ ((f : Entity) × In f es × T (bounds k f))
+    go : T (some? (bounds k) es) ⊎ T (not (some? (bounds k) es)) → T (not (some? (bounds k) es)) ⊎ ((f : Entity) × In f es × T (bounds k f))
     go (inl t) = inr (some-in (bounds k) es t)
     go (inr t) = inl t
 
 -- ---- lists of lists that a function makes
-
-pub flat-map-in : {A B : Type 0} (f : A → List B) (xs : List A) (b : B) → In b (flat (map f xs)) → (a : A) × In a xs × In b (f a)
-unfolding flat
-flat-map-in f [] b i = absurd i
-flat-map-in {A} {B} f (x ∷ xs) b i = go (in-either b (f x) (flat (map f xs)) i) (flat-map-in f xs b)
-  where
-    go : In b (f x) ⊎ In b (flat (map f xs)) → (In b (flat (map f xs)) → (a : A) × In a xs × In b (f a)) → (a : A) × In a (x ∷ xs) × In b (f a)
-    go (inl j) rest = (x, inl refl, j)
-    go (inr j) rest = (rest j .0, inr (rest j .1), rest j .2)
-
-pub in-flat-map : {A B : Type 0} (f : A → List B) (xs : List A) (a : A) (b : B) → In a xs → In b (f a) → In b (flat (map f xs))
-unfolding flat
-in-flat-map f [] a b i j = absurd i
-in-flat-map {A} {B} f (x ∷ xs) a b (inl p) j = in-left b (f x) (flat (map f xs)) (subst (λ (z : A). In b (f z)) p j)
-in-flat-map f (x ∷ xs) a b (inr i) j = in-right b (f x) (flat (map f xs)) (in-flat-map f xs a b i j)

@@ -1,42 +1,16 @@
--- Lists of entities in ascending order of their names: sorted, and what a test keeps of them.
+-- Entities sorted by their names: the same members, in ascending order.
 -- Assumes nothing.
 use Prim.Native.Nat.{ℕ, _<_}
 use native.Mathlib.Omega.{arith}
-use mathlib.Core.Path.{_≡_, refl, sym, ap, _∙_, subst}
+use mathlib.Core.Path.{_≡_, refl, sym, ap, subst}
 use mathlib.Core.Bool.{Bool, true, false, cond, not}
 use mathlib.Core.Logic.{_⊎_, inl, inr}
 use mathlib.Core.List.{List, [], _∷_, map}
-use lib.Dec.{T, ltb, eqb, ltb→lt, lt→ltb, nltb→le, eqb→eq, T-not, eqb-refl}
-use Rattle.laws.specs.Lists.{In, every, keep, pairwise, ascending}
+use lib.Dec.{T, ltb, eqb, ltb→lt, nltb→le, eqb→eq, eqb-refl}
+use Rattle.laws.specs.Lists.{In, pairwise, ascending}
 use Rattle.paper.specs.Mesh.{Entity, name, insertEnt, sortEnts}
-use Rattle.laws.proofs.Tests.{and-l, and-r, both}
-use Rattle.demands.proofs.Entities.Ascending.{head-below, tail-ascends}
-use Rattle.laws.proofs.Members.{in-every, map-in, keep-in}
+use Rattle.laws.proofs.Keyed.{head-below, tail-ascends, cons-ascends}
 use Rattle.demands.proofs.Entities.Names.{Uniq}
-
--- a list ascends where its head is below all others, and these ascend
-pub cons-ascends : (x : Entity) (xs : List Entity) → ((e : Entity) → In e xs → name x < name e) → T (ascending (map name xs)) → T (ascending (map name (x ∷ xs)))
-unfolding ascending pairwise
-cons-ascends x xs h t =
-    both (every (ltb (name x)) (map name xs)) (pairwise ltb (map name xs))
-    (in-every (ltb (name x)) (map name xs) (λ k i. let w = map-in name xs k i in lt→ltb (name x) k (omega (arith, h (w .0) (w .1), w .2)))) t
-
--- names in an ascending list stand for one entity
-pub ascends-uniq : (es : List Entity) → T (ascending (map name es)) → Uniq es
-ascends-uniq [] t e f i j p = absurd i
-ascends-uniq (x ∷ xs) t e f (inl a) (inl b) p = a ∙ sym b
-ascends-uniq (x ∷ xs) t e f (inl a) (inr j) p = absurd (omega (arith, head-below x xs t f j, ap name a, p))
-ascends-uniq (x ∷ xs) t e f (inr i) (inl b) p = absurd (omega (arith, head-below x xs t e i, ap name b, p))
-ascends-uniq (x ∷ xs) t e f (inr i) (inr j) p = ascends-uniq xs (tail-ascends x xs t) e f i j p
-
-pub keep-ascends : (f : Entity → Bool) (es : List Entity) → T (ascending (map name es)) → T (ascending (map name (keep f es)))
-unfolding keep
-keep-ascends f [] t = t
-keep-ascends f (x ∷ xs) t = go (f x) (keep-ascends f xs (tail-ascends x xs t))
-  where
-    go : (b : Bool) → T (ascending (map name (keep f xs))) → T (ascending (map name (cond b (x ∷ keep f xs) (keep f xs))))
-    go true s = cons-ascends x (keep f xs) (λ e i. head-below x xs t e (keep-in f xs e i .0)) s
-    go false s = s
 
 -- ---- insertion
 
@@ -81,17 +55,17 @@ insert-self e (f ∷ fs) u = go (ltb (name e) (name f)) (eqb (name e) (name f)) 
 
 insert-ascends : (e : Entity) (es : List Entity) → T (ascending (map name es)) → T (ascending (map name (insertEnt e es)))
 unfolding insertEnt
-insert-ascends e [] t = cons-ascends e [] (λ a i. absurd i) t
+insert-ascends e [] t = cons-ascends name e [] (λ a i. absurd i) t
 insert-ascends e (f ∷ fs) t =
-    go (ltb (name e) (name f)) refl (eqb (name e) (name f)) refl (insert-ascends e fs (tail-ascends f fs t))
+    go (ltb (name e) (name f)) refl (eqb (name e) (name f)) refl (insert-ascends e fs (tail-ascends name f fs t))
   where
     up : name e < name f → (a : Entity) → In a (f ∷ fs) → name e < name a
     up h a (inl p) = omega (arith, h, ap name p)
-    up h a (inr i) = omega (arith, h, head-below f fs t a i)
+    up h a (inr i) = omega (arith, h, head-below name f fs t a i)
 
     down : name f < name e → (a : Entity) → (a ≡ e) ⊎ In a fs → name f < name a
     down h a (inl p) = omega (arith, h, ap name p)
-    down h a (inr i) = head-below f fs t a i
+    down h a (inr i) = head-below name f fs t a i
 
     apart : ltb (name e) (name f) ≡ false → eqb (name e) (name f) ≡ false → name f < name e
     apart x y =
@@ -101,9 +75,9 @@ insert-ascends e (f ∷ fs) t =
 
     go : (b : Bool) → ltb (name e) (name f) ≡ b → (c : Bool) → eqb (name e) (name f) ≡ c → T (ascending (map name (insertEnt e fs)))
         → T (ascending (map name (cond b (e ∷ f ∷ fs) (cond c (f ∷ fs) (f ∷ insertEnt e fs)))))
-    go true x c y rest = cons-ascends e (f ∷ fs) (up (ltb→lt (name e) (name f) (subst T (sym x) tt))) t
+    go true x c y rest = cons-ascends name e (f ∷ fs) (up (ltb→lt (name e) (name f) (subst T (sym x) tt))) t
     go false x true y rest = t
-    go false x false y rest = cons-ascends f (insertEnt e fs) (λ a i. down (apart x y) a (insert-in e fs a i)) rest
+    go false x false y rest = cons-ascends name f (insertEnt e fs) (λ a i. down (apart x y) a (insert-in e fs a i)) rest
 
 -- ---- sorting
 

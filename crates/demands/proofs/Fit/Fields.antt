@@ -1,63 +1,34 @@
 -- Rule 7 of the rows that fitting parts make: each field has its width and its layout.
 -- Assumes nothing.
-use Prim.Native.Nat.{ℕ, zero, suc, _+_, _-_, _*_, _/_, _%_, _^_, _<_, _≤_}
-use native.Mathlib.Nat.{mod-lt}
+use Prim.Native.Nat.{ℕ, zero, suc, _+_, _-_, _*_, _^_, _<_, _≤_}
 use native.Mathlib.Omega.{arith}
-use mathlib.Core.Path.{_≡_, refl, sym, ap, ap₂, _∙_, subst}
-use mathlib.Core.Bool.{Bool, true, false, cond, _&&_}
-use mathlib.Core.Logic.{_⊎_, inl, inr}
+use mathlib.Core.Path.{_≡_, refl, sym, ap, _∙_, subst}
+use mathlib.Core.Bool.{true, _&&_}
 use mathlib.Core.List.{List, [], _∷_, _++_, map}
-use lib.ListN.{length, getD, drop, replicate, length-map, length-append, length-replicate}
+use lib.ListN.{length, getD, replicate, length-map, length-append, length-replicate}
 use lib.Seq.{drop-at}
 use lib.Pow.{areBytes, pow-mono}
-use lib.Dec.{T, eqb, ltb, leb, ltb→lt, lt→ltb, le→leb, lit<}
-use Rattle.laws.specs.Lists.{In, flat, every, indexOf}
-use Rattle.field.specs.Bytes.{longs, bytesOf, finite}
+use lib.Dec.{T, eqb, ltb, leb, lt→ltb, le→leb}
+use Rattle.laws.specs.Lists.{In, flat, every}
+use Rattle.field.specs.Bytes.{bytesOf, finite}
 use Rattle.part_set.specs.Masks.{has, partsIn, others}
-use Rattle.paper.specs.Image.{Row, Set, noRow, remotes, rowBytes, partBytes, imageOf}
-use Rattle.paper.specs.Mesh.{Entity, Parts, nameOf, name, noEnt, slotIn, objectsIn, poorest, ownerOf}
+use Rattle.paper.specs.Image.{rowBytes}
+use Rattle.paper.specs.Mesh.{Entity, Parts, nameOf, name, slotIn, ownerOf}
 use Rattle.paper.specs.Sound.{valueFits, bodyFits, fieldsFit}
-use Rattle.paper.specs.Placement.{residenceIn, bodyIn, rowFor, rowsFor}
-use Rattle.laws.proofs.Tests.{both, and-l, and-r, join8}
-use Rattle.laws.proofs.Members.{in-every, map-in, part-lt, eq-eqb, getD-in, in-getD}
-use Rattle.field.proofs.Numbers.{length-bytes}
-use Rattle.paper.proofs.RowBack.{RowFits}
+use Rattle.paper.specs.Placement.{residenceIn, bodyIn, rowFor}
+use Rattle.laws.proofs.Tests.{both, join8}
+use Rattle.laws.proofs.Members.{in-every, map-in, part-lt}
 use Rattle.paper.proofs.Codec.{Wide}
-use Rattle.demands.proofs.Rows.Bodies.{length-eights, zeros-are}
+use Rattle.laws.proofs.Zeros.{zeros-are}
 use Rattle.part_set.proofs.MaskParts.{partsIn-in, in-partsIn}
 use Rattle.paper.proofs.Remotes.{remotes-others}
-use Rattle.demands.proofs.Entities.Closed.{EntOk, FacesOk}
 use Rattle.demands.proofs.Fit.Record.{Fit}
-use Rattle.demands.proofs.Fit.Rows.{Coords, coords-at, coords-back, faces-at, residence-lt, residence-holds, holds-residence}
-
--- ---- bytes
-
-pub bytes-of : (w n : ℕ) → T (areBytes (bytesOf w n))
-unfolding bytesOf
-bytes-of zero n = tt
-bytes-of (suc w) n = both (ltb (n % 256) 256) (areBytes (bytesOf w (n / 256))) (lt→ltb (n % 256) 256 (mod-lt n (lit< tt))) (bytes-of w (n / 256))
-
-pub bytes-append : (a b : List ℕ) → T (areBytes a) → T (areBytes b) → T (areBytes (a ++ b))
-bytes-append [] b x y = y
-bytes-append (c ∷ a) b x y =
-    both (ltb c 256) (areBytes (a ++ b)) (and-l (ltb c 256) (areBytes a) x) (bytes-append a b (and-r (ltb c 256) (areBytes a) x) y)
-
-pub bytes-flat : {A : Type 0} (f : A → List ℕ) (xs : List A) → ((a : A) → In a xs → T (areBytes (f a))) → T (areBytes (flat (map f xs)))
-unfolding flat
-bytes-flat f [] h = tt
-bytes-flat f (x ∷ xs) h = bytes-append (f x) (flat (map f xs)) (h x (inl refl)) (bytes-flat f xs (λ a i. h a (inr i)))
-
-bytes-zeros : (n : ℕ) → T (areBytes (replicate n 0))
-bytes-zeros zero = tt
-bytes-zeros (suc n) = bytes-zeros n
+use Rattle.demands.proofs.Fit.Rows.{coords-at, coords-back, faces-at, residence-lt, residence-holds, holds-residence}
+use Rattle.laws.proofs.Places.{index-le}
+use Rattle.demands.proofs.Entities.Owners.{owner-in}
+use Rattle.demands.proofs.Rows.Bytes.{bytes-of, bytes-append, bytes-flat, bytes-zeros, length-each}
 
 -- ---- the body
-
-length-fours : (g : ℕ → ℕ) (xs : List ℕ) → length (flat (map (λ k. bytesOf 4 (g k)) xs)) ≡ 4 * length xs
-unfolding flat
-length-fours g [] = refl
-length-fours g (x ∷ xs) =
-    omega (arith, length-append (bytesOf 4 (g x)) (flat (map (λ k. bytesOf 4 (g k)) xs)), length-bytes 4 (g x), length-fours g xs)
 
 body-bytes : (es : List Entity) (d : ℕ) (shape : List ℕ) → T (areBytes (bodyIn es d shape))
 unfolding bodyIn
@@ -65,33 +36,6 @@ body-bytes es zero shape = bytes-flat (bytesOf 8) shape (λ x i. bytes-of 8 x)
 body-bytes es (suc d) shape =
     bytes-append (flat (map (λ k. bytesOf 4 (slotIn es (nameOf d k))) shape)) (replicate (24 - 4 * (d + 2)) 0)
     (bytes-flat (λ k. bytesOf 4 (slotIn es (nameOf d k))) shape (λ k i. bytes-of 4 (slotIn es (nameOf d k)))) (bytes-zeros (24 - 4 * (d + 2)))
-
--- ---- the owner is one of the parts
-
-poorest-in : (c : ℕ → ℕ) (p : ℕ) (qs : List ℕ) → In (poorest c p qs) (p ∷ qs)
-unfolding poorest
-poorest-in c p [] = inl refl
-poorest-in c p (q ∷ qs) = go (ltb (c q) (c p)) (poorest-in c (cond (ltb (c q) (c p)) q p) qs)
-  where
-    go : (b : Bool) → In (poorest c (cond (ltb (c q) (c p)) q p) qs) (cond b q p ∷ qs) → In (poorest c (cond (ltb (c q) (c p)) q p) qs) (p ∷ q ∷ qs)
-    go true (inl e) = inr (inl e)
-    go true (inr i) = inr (inr i)
-    go false (inl e) = inl e
-    go false (inr i) = inr (inr i)
-
-owner-in : (ps : Parts) (qs : List ℕ) (p : ℕ) → In p qs → In (ownerOf ps qs) qs
-unfolding ownerOf
-owner-in ps [] p i = absurd i
-owner-in ps (q ∷ qs) p i = poorest-in (objectsIn ps) q qs
-
-index-le : (k : ℕ) (xs : List ℕ) → indexOf k xs ≤ length xs
-unfolding indexOf
-index-le k [] = omega arith
-index-le k (x ∷ xs) = go (eqb k x) (index-le k xs)
-  where
-    go : (b : Bool) → indexOf k xs ≤ length xs → cond b 0 (suc (indexOf k xs)) ≤ suc (length xs)
-    go true h = omega arith
-    go false h = omega arith
 
 slot-le : (es : List Entity) (k : ℕ) → slotIn es k ≤ length es
 unfolding slotIn
@@ -105,13 +49,13 @@ module _ (ps : Parts) (F : Fit ps) (few : (p : ℕ) → length (getD ps p []) < 
 
   body-length : (p : ℕ) (e : Entity) → In e (getD ps p []) → (d : ℕ) → e .dim ≡ d → length (bodyIn (getD ps p []) d (e .shape)) ≡ 24
   unfolding bodyIn
-  body-length p e i zero q = omega (arith, length-eights (e .shape), coords-at ps F few p e i q .count)
+  body-length p e i zero q = omega (arith, length-each 8 (λ k. k) (e .shape), coords-at ps F few p e i q .count)
   body-length p e i (suc d) q =
       let g : ℕ → ℕ = λ k. slotIn (getD ps p []) (nameOf d k) in
       omega (
         arith,
         length-append (flat (map (λ k. bytesOf 4 (g k)) (e .shape))) (replicate (24 - 4 * (d + 2)) 0),
-        length-fours g (e .shape),
+        length-each 4 g (e .shape),
         length-replicate {A = ℕ} (24 - 4 * (d + 2)) 0,
         faces-at ps F few p d e i q .count,
         F .fits p e i .dim,
@@ -155,7 +99,7 @@ module _ (ps : Parts) (F : Fit ps) (few : (p : ℕ) → length (getD ps p []) < 
       let front = flat (map (λ k. bytesOf 4 (g k)) (e .shape)) in
       let pad = replicate {A = ℕ} (24 - 4 * (d + 2)) 0 in
       subst (λ (xs : List ℕ). T (every (eqb 0) xs))
-      (sym (drop-at front pad (4 * (d + 2)) (length-fours g (e .shape) ∙ ap (λ (n : ℕ). 4 * n) (faces-at ps F few p d e i q .count)))) (zeros-are (24 - 4 * (d + 2)))
+      (sym (drop-at front pad (4 * (d + 2)) (length-each 4 g (e .shape) ∙ ap (λ (n : ℕ). 4 * n) (faces-at ps F few p d e i q .count)))) (zeros-are (24 - 4 * (d + 2)))
 
   pub row-fields : (p : ℕ) (e : Entity) → In e (getD ps p []) → T (fieldsFit (length ps) p (rowFor ps p e))
   unfolding fieldsFit rowFor

@@ -1,25 +1,23 @@
 -- Rules 8 and 9 of the rows that fitting parts make: the order and the boundary.
 -- Assumes nothing.
-use Prim.Native.Nat.{ℕ, zero, suc, _+_, _*_, _^_, _<_, _≤_}
+use Prim.Native.Nat.{ℕ, zero, suc, _^_, _<_}
 use native.Mathlib.Omega.{arith}
-use mathlib.Core.Path.{_≡_, refl, sym, ap, ap₂, _∙_, subst, subst₂}
-use mathlib.Core.Bool.{Bool, true, false, _&&_}
-use mathlib.Core.Logic.{_⊎_, inl, inr}
-use mathlib.Core.List.{List, [], _∷_, map}
+use mathlib.Core.Path.{_≡_, refl, sym, ap, _∙_, subst, subst₂}
+use mathlib.Core.Bool.{Bool, _&&_}
+use mathlib.Core.List.{List, [], map}
 use lib.ListN.{length, getD, length-map, List·getD-map}
-use lib.Dec.{T, eqb, ltb, ltb→lt, lt→ltb}
+use lib.Dec.{T, eqb, ltb, lt→ltb}
 use Rattle.laws.specs.Lists.{In, every, pairwise, ascending}
-use Rattle.field.specs.Bytes.{words}
-use Rattle.paper.specs.Image.{Row, Set, noRow}
+use Rattle.paper.specs.Image.{Row, noRow}
 use Rattle.paper.specs.Mesh.{Entity, Parts, nameOf, name, noEnt, slotsOf, shapeOf, entOf, holds, slotIn, simplex}
 use Rattle.paper.specs.Sound.{nameOfRow, ordered, slotsStand, boundaryStands}
-use Rattle.paper.specs.Placement.{bodyIn, rowFor, rowsFor}
-use Rattle.laws.proofs.Tests.{both}
-use Rattle.laws.proofs.Members.{in-every, map-in, getD-map, eq-eqb}
+use Rattle.paper.specs.Placement.{bodyIn, rowFor}
+use Rattle.laws.proofs.Tests.{both, eq-eqb}
+use Rattle.laws.proofs.Members.{in-every, map-in}
+use Rattle.laws.proofs.Agree.{getD-map}
 use Rattle.demands.proofs.Entities.Names.{name-dim}
 use Rattle.laws.proofs.Ascending.{asc-getD, asc-places, asc-map}
 use Rattle.demands.proofs.Rows.ReadBack.{slot-lt, slot-name, slots-written}
-use Rattle.demands.proofs.Entities.Closed.{EntOk, FacesOk}
 use Rattle.demands.proofs.Fit.Record.{Fit}
 use Rattle.demands.proofs.Fit.Rows.{rowsIn, numbers, faces-at, all-standing, ent-back, part-back}
 

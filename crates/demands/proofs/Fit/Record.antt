@@ -5,12 +5,12 @@
 use Prim.Native.Nat.{ℕ, _<_, _≤_}
 use mathlib.Core.Path.{_≡_}
 use mathlib.Core.Logic.{_⊎_}
-use mathlib.Core.List.{List, [], map}
+use mathlib.Core.List.{[], map}
 use lib.ListN.{length, getD}
 use lib.Dec.{T}
 use Rattle.laws.specs.Lists.{In, flat, ascending}
 use Rattle.paper.specs.Mesh.{Entity, Parts, name, bounds, isObject}
-use Rattle.demands.proofs.Entities.Closed.{EntOk}
+use Rattle.demands.proofs.Entities.Fits.{EntOk}
 
 pub record Fit (ps : Parts) : Type 0 where
   pub some-part : 0 < length ps

@@ -1,53 +1,42 @@
 -- Rule 11 of the rows that fitting parts make: an object is in one part, any other entity where what it bounds is.
 -- Assumes nothing.
-use Prim.Native.Nat.{ℕ, zero, suc, _+_, _*_, _^_, _<_, _≤_}
-use native.Mathlib.Omega.{arith}
-use mathlib.Core.Path.{_≡_, refl, sym, ap, ap₂, _∙_, subst, subst₂}
-use mathlib.Core.Bool.{Bool, true, false, not}
+use Prim.Native.Nat.{ℕ, _^_, _<_}
+use mathlib.Core.Path.{_≡_, sym, ap, _∙_, subst, subst₂}
+use mathlib.Core.Bool.{Bool}
 use mathlib.Core.Logic.{_⊎_, inl, inr}
-use mathlib.Core.List.{List, [], _∷_, map}
+use mathlib.Core.List.{[]}
 use lib.ListN.{length, getD}
-use lib.Dec.{T, eqb}
+use lib.Dec.{T}
 use Rattle.laws.specs.Lists.{In, some?, flat}
 use Rattle.part_set.specs.Masks.{has, count, partsIn, maskOf}
-use Rattle.paper.specs.Image.{Row, Set, noRow, rowAt}
-use Rattle.paper.specs.Mesh.{Entity, Parts, nameOf, name, noEnt, bounds, isObject, holds}
+use Rattle.paper.specs.Image.{Row, rowAt}
+use Rattle.paper.specs.Mesh.{Entity, Parts, name, noEnt, bounds, isObject}
 use Rattle.paper.specs.Sound.{nameOfRow, rowsAbove, residence, residesWell}
 use Rattle.paper.specs.Placement.{residenceIn, rowFor, rowsFor}
-use Rattle.laws.proofs.Members.{iff-eq, eq-eqb, getD-in, in-getD, in-flat, some-in, in-some}
-use Rattle.demands.proofs.Entities.Names.{in-holds, bounds-in, vertex-bounds, not-object}
-use Rattle.part_set.proofs.MaskBits.{has-maskOf, mask-ext}
+use Rattle.laws.proofs.Members.{getD-in, in-getD, in-flat, some-in, in-some}
+use Rattle.demands.proofs.Entities.Names.{not-object}
+use Rattle.part_set.proofs.MaskBits.{maskOf-is}
 use Rattle.laws.proofs.Ascending.{one-only}
-use Rattle.part_set.proofs.MaskParts.{maskOf-lt, partsIn-in, in-partsIn, partsIn-ascends}
-use Rattle.demands.proofs.Entities.Closed.{Closed, fits-closed}
+use Rattle.part_set.proofs.MaskParts.{partsIn-in, partsIn-ascends}
 use Rattle.demands.proofs.Fit.Record.{Fit}
 use Rattle.demands.proofs.Rows.Made.{rows-count}
-use Rattle.demands.proofs.Sound.Rows.{ent}
-use Rattle.demands.proofs.Sound.ToFit.{above-in, in-above}
+use Rattle.demands.proofs.Sound.Rows.{ent, row}
+use Rattle.demands.proofs.Sound.Above.{above-in, in-above, some-res, none-res}
 use Rattle.demands.proofs.Fit.Rows.{in-rows, row-at, ent-at, residence-lt, has-residence, residence-holds, holds-residence}
 use Rattle.demands.proofs.Fit.Fields.{own-bit}
-use Rattle.demands.proofs.Fit.Copies.{in-held}
-
-pub some-res : (n m : ℕ) (rs : List Row) (a : Row) → In a rs → m ≡ maskOf n (λ q. some? (λ a. has (a .mask) q) rs) → T (residence n m rs)
-unfolding residence
-some-res n m [] a i e = absurd i
-some-res n m (r ∷ rs) a i e = eq-eqb m (maskOf n (λ q. some? (λ a. has (a .mask) q) (r ∷ rs))) e
-
-none-res : (n m : ℕ) (rs : List Row) → ((a : Row) → In a rs → ⊥) → count m ≡ 1 → T (residence n m rs)
-unfolding residence
-none-res n m [] h e = eq-eqb (count m) 1 e
-none-res n m (r ∷ rs) h e = absurd (h r (inl refl))
+use Rattle.demands.proofs.Fit.Held.{in-held, part-closed}
+use Rattle.demands.proofs.Entities.Closed.{closed-down}
 
 module _ (ps : Parts) (F : Fit ps) (few : (p : ℕ) → length (getD ps p []) < 2 ^ 32) where
   -- a row above k is that of an entity with k on its boundary
-  pub record Above (k : ℕ) (a : Row) : Type 0 where
+  record Above (k : ℕ) (a : Row) : Type 0 where
     pub part : ℕ
     pub above : Entity
     pub there : In above (getD ps part [])
     pub bounded : T (bounds k above)
     pub mask : a .mask ≡ residenceIn ps (name above)
 
-  mask-at : (q t : ℕ) → t < length (getD ps q []) → getD (getD (rowsFor ps) q []) t noRow .mask ≡ residenceIn ps (name (getD (getD ps q []) t noEnt))
+  mask-at : (q t : ℕ) → t < length (getD ps q []) → row (rowsFor ps) q t .mask ≡ residenceIn ps (name (getD (getD ps q []) t noEnt))
   unfolding rowFor
   mask-at q t h = ap (λ (r : Row). r .mask) (row-at ps q t h)
 
@@ -71,20 +60,10 @@ module _ (ps : Parts) (F : Fit ps) (few : (p : ℕ) → length (getD ps p []) < 
       let w = in-getD (getD ps q []) g noEnt i in
       let t = w .0 in
       let e : ent (rowsFor ps) q t ≡ g = ent-at ps F few q t (w .1) ∙ sym (w .2) in (
-        getD (getD (rowsFor ps) q []) t noRow,
+        row (rowsFor ps) q t,
         in-above (rowsFor ps) k q t (subst (λ (n : ℕ). t < n) (sym (in-rows ps q)) (w .1)) (subst (λ (x : Entity). T (bounds k x)) (sym e) b),
         mask-at q t (w .1) ∙ ap (λ (x : Entity). residenceIn ps (name x)) (sym (w .2)),
       )
-
-  -- a part that holds an entity holds its boundary
-  down : (q k : ℕ) (g : Entity) → In g (getD ps q []) → T (bounds k g) → T (holds (getD ps q []) k)
-  down q k g i b = go (g .dim) refl
-    where
-      go : (d : ℕ) → g .dim ≡ d → T (holds (getD ps q []) k)
-      go zero e = absurd (vertex-bounds k g e b)
-      go (suc d) e =
-          let w = bounds-in d k g e b in
-          subst (λ (z : ℕ). T (holds (getD ps q []) z)) (sym (w .2)) (fits-closed (getD ps q []) (F .fits q) .shape g d (w .0) i e (w .1) .1)
 
   one-part : (p : ℕ) (e : Entity) → In e (getD ps p []) → T (isObject (flat ps) (name e)) → count (residenceIn ps (name e)) ≡ 1
   unfolding count
@@ -92,21 +71,17 @@ module _ (ps : Parts) (F : Fit ps) (few : (p : ℕ) → length (getD ps p []) < 
       let m = residenceIn ps (name e) in
       one-only (partsIn m) (partsIn-ascends m) p (own-bit ps F few p e i) (λ q j.
       let v = residence-holds ps (name e) q (partsIn-in m q j .1) in
-      F .once q p e (in-held ps F few p q e i (v .1)) i t)
+      F .once q p e (in-held ps F p q e i (v .1)) i t)
 
   -- the set of what is not an object is the union of the sets above it
   union : (p : ℕ) (e g : Entity) → In e (getD ps p []) → In g (getD ps p []) → T (bounds (name e) g)
       → residenceIn ps (name e) ≡ maskOf (length ps) (λ q. some? (λ a. has (a .mask) q) (rowsAbove (rowsFor ps) (name e)))
   union p e g i j b =
-      let k = name e in
-      let n = length ps in
-      let rs = rowsAbove (rowsFor ps) k in
-      let f : ℕ → Bool = λ q. some? (λ a. has (a .mask) q) rs in
-      mask-ext n (residenceIn ps k) (maskOf n f) (residence-lt ps k) (maskOf-lt n f) (λ q h.
-      iff-eq (has (residenceIn ps k) q) (f q) (to q) (fro q) ∙ sym (has-maskOf n q f h))
+      let f : ℕ → Bool = λ q. some? (λ a. has (a .mask) q) (rowsAbove (rowsFor ps) (name e)) in
+      sym (maskOf-is (length ps) (residenceIn ps (name e)) f (residence-lt ps (name e)) fro to)
     where
       to : (q : ℕ) → T (has (residenceIn ps (name e)) q) → T (some? (λ a. has (a .mask) q) (rowsAbove (rowsFor ps) (name e)))
-      to q t = go (F .resides q e (in-held ps F few p q e i (residence-holds ps (name e) q t .1)))
+      to q t = go (F .resides q e (in-held ps F p q e i (residence-holds ps (name e) q t .1)))
         where
           go : T (isObject (flat ps) (name e)) ⊎ ((x : Entity) × In x (getD ps q []) × T (bounds (name e) x)) → T (some? (λ a. has (a .mask) q) (rowsAbove (rowsFor ps) (name e)))
           go (inl o) = absurd (not-object (flat ps) (name e) g (in-flat ps p g j) b o)
@@ -119,8 +94,8 @@ module _ (ps : Parts) (F : Fit ps) (few : (p : ℕ) → length (getD ps p []) < 
           let w = some-in (λ a. has (a .mask) q) (rowsAbove (rowsFor ps) (name e)) t in
           let a = above-is (name e) (w .0) (w .1) in
           let v = residence-holds ps (name (a .above)) q (subst (λ (m : ℕ). T (has m q)) (a .mask) (w .2)) in
-          let x : In (a .above) (getD ps q []) = in-held ps F few (a .part) q (a .above) (a .there) (v .1) in
-          subst T (sym (has-residence ps (name e) q (v .0))) (down q (name e) (a .above) x (a .bounded))
+          let x : In (a .above) (getD ps q []) = in-held ps F (a .part) q (a .above) (a .there) (v .1) in
+          subst T (sym (has-residence ps (name e) q (v .0))) (closed-down (getD ps q []) (part-closed ps F q) (name e) (a .above) x (a .bounded))
 
   resides-ent : (p : ℕ) (e : Entity) → In e (getD ps p []) → T (residence (length ps) (residenceIn ps (name e)) (rowsAbove (rowsFor ps) (name e)))
   resides-ent p e i = go (F .resides p e i)

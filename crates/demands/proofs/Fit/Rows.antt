@@ -1,31 +1,34 @@
 -- Parts that fit, written as rows and read back.
 -- Assumes nothing.
-use Prim.Native.Nat.{ℕ, zero, suc, _+_, _-_, _*_, _^_, _<_, _≤_}
-use native.Mathlib.Omega.{arith}
+use Prim.Native.Nat.{ℕ, zero, suc, _-_, _^_, _<_}
 use mathlib.Core.Path.{_≡_, refl, sym, ap, ap₂, _∙_, subst}
-use mathlib.Core.Bool.{Bool, _&&_}
+use mathlib.Core.Bool.{_&&_}
 use mathlib.Core.Logic.{_⊎_, inl, inr}
-use mathlib.Core.List.{List, [], _∷_, _++_, map, append-nil}
+use mathlib.Core.List.{List, [], map, append-nil}
 use lib.ListN.{length, getD, length-map}
 use lib.Seq.{ext-getD}
 use lib.Dec.{T, eqb, ltb, ltb→lt, lt→ltb, eqb→eq, lit<}
 use Rattle.laws.specs.Lists.{In, flat, every}
-use Rattle.field.specs.Bytes.{words, longs, bytesOf, finite}
-use Rattle.part_set.specs.Masks.{has, maskOf}
-use Rattle.paper.specs.Image.{Row, Set, noRow}
-use Rattle.paper.specs.Mesh.{Entity, Parts, nameOf, name, noEnt, shapeOf, slotsOf, entOf, partsOf, holds, slotIn}
+use Rattle.field.specs.Bytes.{longs, bytesOf, finite}
+use Rattle.part_set.specs.Masks.{has}
+use Rattle.paper.specs.Image.{Row, noRow}
+use Rattle.paper.specs.Mesh.{Entity, Parts, nameOf, name, noEnt, shapeOf, entOf, partsOf, holds}
 use Rattle.paper.specs.Placement.{residenceIn, bodyIn, rowFor, rowsFor, shapeFits}
-use Rattle.laws.proofs.Tests.{split2, both}
-use Rattle.laws.proofs.Members.{map-of-map, map-self, decide, map-same, getD-map, getD-in, in-getD, every-in, in-every, part-lt}
-use Rattle.demands.proofs.Entities.Names.{holds-in, in-holds}
+use Rattle.laws.proofs.Tests.{split2, both, decide}
+use Rattle.laws.proofs.Agree.{map-of-map, map-self, getD-map}
+use Rattle.laws.proofs.Members.{getD-in, every-in, in-every, part-lt}
+use Rattle.demands.proofs.Entities.Names.{in-holds}
 use Rattle.part_set.proofs.MaskBits.{has-maskOf}
 use Rattle.part_set.proofs.MaskParts.{maskOf-lt, has-lt}
-use Rattle.demands.proofs.Rows.Bodies.{longs-back}
-use Rattle.demands.proofs.Rows.ReadBack.{standing, slots-written, shape-back}
-use Rattle.demands.proofs.Entities.Closed.{EntOk, FacesOk, faces-of}
+use Rattle.demands.proofs.Rows.Bytes.{longs-back}
+use Rattle.demands.proofs.Rows.ReadBack.{standing, shape-back}
+use Rattle.demands.proofs.Entities.Fits.{FacesOk, faces-of}
 use Rattle.demands.proofs.Rows.Made.{rows-count, rows-part}
-use Rattle.demands.proofs.Sound.Rows.{ent, parts-at, parts-count}
+use Rattle.demands.proofs.Sound.Rows.{ent, parts-at, parts-count, row}
 use Rattle.demands.proofs.Fit.Record.{Fit}
+use mathlib.Core.Bool.{not}
+use lib.Dec.{nltb→le}
+use lib.ListN.{List·getD-eq-default}
 
 -- the rows of part p
 abbrev pub rowsIn : Parts → ℕ → List Row
@@ -34,7 +37,7 @@ rowsIn ps p = map (rowFor ps p) (getD ps p [])
 pub in-rows : (ps : Parts) (p : ℕ) → length (getD (rowsFor ps) p []) ≡ length (getD ps p [])
 in-rows ps p = ap length (rows-part ps p) ∙ length-map (getD ps p []) (rowFor ps p)
 
-pub row-at : (ps : Parts) (p s : ℕ) → s < length (getD ps p []) → getD (getD (rowsFor ps) p []) s noRow ≡ rowFor ps p (getD (getD ps p []) s noEnt)
+pub row-at : (ps : Parts) (p s : ℕ) → s < length (getD ps p []) → row (rowsFor ps) p s ≡ rowFor ps p (getD (getD ps p []) s noEnt)
 row-at ps p s h = ap (λ (rows : List Row). getD rows s noRow) (rows-part ps p) ∙ getD-map (rowFor ps p) (getD ps p []) s noEnt noRow h
 
 -- ---- residence sets
@@ -60,7 +63,7 @@ pub record Coords (shape : List ℕ) : Type 0 where
   pub small : T (every (λ x. ltb x (2 ^ 64)) shape)
   pub finites : T (every finite shape)
 
-pub coords-of : (es : List Entity) (shape : List ℕ) → T (shapeFits es 0 shape) → Coords shape
+coords-of : (es : List Entity) (shape : List ℕ) → T (shapeFits es 0 shape) → Coords shape
 unfolding shapeFits
 coords-of es shape t =
     let s = split2 (eqb (length shape) 3) (every (λ x. ltb x (2 ^ 64) && finite x) shape) t in
@@ -82,10 +85,10 @@ module _ (ps : Parts) (F : Fit ps) (few : (p : ℕ) → length (getD ps p []) < 
   pub numbers : (p i : ℕ) → getD (getD ps p []) i noEnt .number < 2 ^ 32
   numbers p i = go (decide (ltb i (length (getD ps p []))))
     where
-      go : T (ltb i (length (getD ps p []))) ⊎ T (mathlib.Core.Bool.not (ltb i (length (getD ps p [])))) → getD (getD ps p []) i noEnt .number < 2 ^ 32
+      go : T (ltb i (length (getD ps p []))) ⊎ T (not (ltb i (length (getD ps p [])))) → getD (getD ps p []) i noEnt .number < 2 ^ 32
       go (inl t) = F .fits p (getD (getD ps p []) i noEnt) (getD-in (getD ps p []) i noEnt (ltb→lt i (length (getD ps p [])) t)) .number
       go (inr t) =
-          subst (λ (e : Entity). e .number < 2 ^ 32) (sym (lib.ListN.List·getD-eq-default (getD ps p []) noEnt {n = i} (lib.Dec.nltb→le i (length (getD ps p [])) t))) (lit< tt)
+          subst (λ (e : Entity). e .number < 2 ^ 32) (sym (List·getD-eq-default (getD ps p []) noEnt {n = i} (nltb→le i (length (getD ps p [])) t))) (lit< tt)
 
   pub faces-at : (p d : ℕ) (e : Entity) → In e (getD ps p []) → e .dim ≡ suc d → FacesOk (getD ps p []) d (e .shape)
   faces-at p d e i q = faces-of (getD ps p []) d (e .shape) (subst (λ (z : ℕ). T (shapeFits (getD ps p []) z (e .shape))) q (F .fits p e i .shape))

@@ -1,56 +1,48 @@
 -- Fit to mesh: parts that fit are the spread of their mesh, each object where it is found, and the mesh fits.
 -- Assumes nothing.
-use Prim.Native.Nat.{ℕ, _<_, _≤_}
-use native.Mathlib.Omega.{arith}
-use mathlib.Core.Path.{_≡_, refl, sym, ap, _∙_, subst}
+use Prim.Native.Nat.{ℕ, _<_}
+use mathlib.Core.Path.{_≡_, sym, subst}
 use mathlib.Core.Bool.{Bool}
-use mathlib.Core.Logic.{_⊎_, inl, inr}
-use mathlib.Core.List.{List, [], _∷_, map}
+use mathlib.Core.Logic.{_⊎_}
+use mathlib.Core.List.{List, [], map}
 use lib.ListN.{length, getD}
 use lib.Seq.{ext-getD}
-use lib.Dec.{T, ltb, leb, lt→ltb, le→leb}
-use Rattle.laws.specs.Lists.{In, every, keep, flat, ascending, member}
-use Rattle.paper.specs.Mesh.{Entity, Parts, name, bounds, isObject, holds, sortEnts, meshOf}
-use Rattle.paper.specs.Placement.{Placement, objects, closures, spread, placeIn, placesOf, entFits, meshFits, WellPlaced}
+use lib.Dec.{T, ltb, lt→ltb, le→leb}
+use Rattle.laws.specs.Lists.{In, every, flat, ascending, member}
+use Rattle.paper.specs.Mesh.{Entity, Parts, name, bounds, isObject, meshOf}
+use Rattle.paper.specs.Placement.{objects, closures, spread, placeIn, placesOf, entFits, meshFits, WellPlaced}
 use Rattle.laws.proofs.Tests.{both}
-use Rattle.demands.proofs.Entities.Ascending.{ascending-ext}
-use Rattle.laws.proofs.Members.{in-flat, flat-in, in-every, map-in}
-use Rattle.demands.proofs.Entities.Names.{Uniq, holds-in, in-holds, object-same}
-use Rattle.demands.proofs.Entities.Sorted.{sort-in, in-sort, sort-ascends, ascends-uniq, keep-ascends}
-use Rattle.demands.proofs.Entities.Closed.{Closed, EntOk, fits-of, fits-closed, ok-up}
-use Rattle.demands.proofs.Entities.Closures.{closureOf, closure-part, in-closure}
+use Rattle.laws.proofs.Keyed.{ascending-ext, ascends-uniq, keep-ascends}
+use Rattle.laws.proofs.Members.{in-flat, flat-in, in-every, map-in, part-lt}
+use Rattle.demands.proofs.Entities.Names.{Uniq, in-holds, object-same}
+use Rattle.demands.proofs.Entities.Sorted.{sort-in, in-sort, sort-ascends}
+use Rattle.demands.proofs.Entities.Closed.{Closed}
+use Rattle.demands.proofs.Entities.Fits.{EntOk, fits-of, fits-closed, ok-up}
+use Rattle.demands.proofs.Entities.Closures.{closure-part, in-closure}
 use Rattle.demands.proofs.Mesh.Spread.{Under, objects-in, spread-length, spread-part, spread-in, in-spread, place-found}
 use Rattle.demands.proofs.Fit.Record.{Fit}
+use Rattle.demands.proofs.Fit.Held.{flat-uniq, in-held, part-closed, part-uniq}
 
 module _ (ps : Parts) (F : Fit ps) where
-  flat-uniq : Uniq (flat ps)
-  flat-uniq e f i j q = let a = flat-in ps e i in let b = flat-in ps f j in F .agree (a .0) (b .0) e f (a .2) (b .2) q
-
   pub in-mesh : (p : ℕ) (e : Entity) → In e (getD ps p []) → In e (meshOf ps)
   unfolding meshOf
-  in-mesh p e i = in-sort (flat ps) flat-uniq e (in-flat ps p e i)
+  in-mesh p e i = in-sort (flat ps) (flat-uniq ps F) e (in-flat ps p e i)
 
   pub mesh-in : (e : Entity) → In e (meshOf ps) → (p : ℕ) × (p < length ps) × In e (getD ps p [])
   unfolding meshOf
   mesh-in e i = flat-in ps e (sort-in (flat ps) e i)
 
-  pub mesh-ascends : T (ascending (map name (meshOf ps)))
+  mesh-ascends : T (ascending (map name (meshOf ps)))
   unfolding meshOf
   mesh-ascends = sort-ascends (flat ps)
 
   mesh-uniq : Uniq (meshOf ps)
-  mesh-uniq = ascends-uniq (meshOf ps) mesh-ascends
-
-  part-uniq : (p : ℕ) → Uniq (getD ps p [])
-  part-uniq p = ascends-uniq (getD ps p []) (F .ascends p)
-
-  pub part-closed : (p : ℕ) → Closed (getD ps p [])
-  part-closed p = fits-closed (getD ps p []) (F .fits p)
+  mesh-uniq = ascends-uniq name (meshOf ps) mesh-ascends
 
   mesh-ok : (e : Entity) → In e (meshOf ps) → EntOk (meshOf ps) e
   mesh-ok e i =
       let w = mesh-in e i in
-      ok-up (getD ps (w .0) []) (meshOf ps) (part-closed (w .0)) (part-uniq (w .0)) mesh-uniq (in-mesh (w .0)) e (w .2) (F .fits (w .0) e (w .2))
+      ok-up (getD ps (w .0) []) (meshOf ps) (part-closed ps F (w .0)) (part-uniq ps F (w .0)) mesh-uniq (in-mesh (w .0)) e (w .2) (F .fits (w .0) e (w .2))
 
   mesh-closed : Closed (meshOf ps)
   mesh-closed = fits-closed (meshOf ps) mesh-ok
@@ -59,19 +51,14 @@ module _ (ps : Parts) (F : Fit ps) where
   mesh-object k =
       object-same (flat ps) (meshOf ps) k (λ e i. let w = flat-in ps e i in in-mesh (w .0) e (w .2)) (λ e i. let w = mesh-in e i in in-flat ps (w .0) e (w .2))
 
-  -- what is found in a part by its name is in that part
-  pub in-found : (p q : ℕ) (e : Entity) → In e (getD ps p []) → T (holds (getD ps q []) (name e)) → In e (getD ps q [])
-  in-found p q e i t =
-      let w = holds-in (getD ps q []) (name e) t in subst (λ (x : Entity). In x (getD ps q [])) (sym (F .agree p q e (w .0) i (w .1) (w .2))) (w .1)
-
   pub found : (p : ℕ) (e : Entity) → p < length ps → In e (getD ps p []) → (placeIn ps (name e) < length ps) × In e (getD ps (placeIn ps (name e)) [])
   found p e h i =
-      let w = place-found ps p (name e) h (in-holds (getD ps p []) e i) in (w .0, in-found p (placeIn ps (name e)) e i (w .1))
+      let w = place-found ps p (name e) h (in-holds (getD ps p []) e i) in (w .0, in-held ps F p (placeIn ps (name e)) e i (w .1))
 
   -- an object is found where it is
   pub object-found : (p : ℕ) (e : Entity) → In e (getD ps p []) → T (isObject (meshOf ps) (name e)) → placeIn ps (name e) ≡ p
   object-found p e i t =
-      let h = Rattle.laws.proofs.Members.part-lt ps p e i in
+      let h = part-lt ps p e i in
       F .once (placeIn ps (name e)) p e (found p e h i .1) i (subst T (sym (mesh-object (name e))) t)
 
   part-resides : (p : ℕ) (e : Entity) → In e (getD ps p []) → T (isObject (meshOf ps) (name e)) ⊎ ((f : Entity) × In f (getD ps p []) × T (bounds (name e) f))
@@ -90,15 +77,15 @@ module _ (ps : Parts) (F : Fit ps) where
       let w = mesh-in o (u .in-mesh) in
       let j : In o (getD ps p []) = subst (λ (q : ℕ). In o (getD ps q [])) (u .placed) (found (w .0) o (w .1) (w .2) .1) in
       let v = mesh-in e i in
-      in-found (v .0) p e (v .2)
-      (closure-part (meshOf ps) mesh-closed mesh-uniq (getD ps p []) (part-closed p) (in-mesh p) o (name e) j (u .covers))
+      in-held ps F (v .0) p e (v .2)
+      (closure-part (meshOf ps) mesh-closed mesh-uniq (getD ps p []) (part-closed ps F p) (in-mesh p) o (name e) j (u .covers))
 
   pub is-spread : ps ≡ spread (length ps) (meshOf ps) (placeIn ps)
   is-spread =
       ext-getD [] ps (spread (length ps) (meshOf ps) (placeIn ps)) (sym (spread-length (length ps) (meshOf ps) (placeIn ps))) (λ p h.
-      ascending-ext (getD ps p []) (getD (spread (length ps) (meshOf ps) (placeIn ps)) p []) (F .ascends p)
+      ascending-ext name (getD ps p []) (getD (spread (length ps) (meshOf ps) (placeIn ps)) p []) (F .ascends p)
       (subst (λ (l : List Entity). T (ascending (map name l))) (sym (spread-part (length ps) (meshOf ps) (placeIn ps) p h))
-      (keep-ascends (λ e. member (name e) (closures (meshOf ps) (placeIn ps) p)) (meshOf ps) mesh-ascends))
+      (keep-ascends name (λ e. member (name e) (closures (meshOf ps) (placeIn ps) p)) (meshOf ps) mesh-ascends))
       (λ e i. in-spread (length ps) (meshOf ps) (placeIn ps) p e h (in-mesh p e i) (under p e i))
       (λ e i. let w = spread-in (length ps) (meshOf ps) (placeIn ps) p e i in no-more p e h (w .1) (w .2)))
 

@@ -2,26 +2,27 @@
 -- Assumes nothing.
 use Prim.Native.Nat.{ℕ, _^_, _<_, _≤_}
 use native.Mathlib.Omega.{arith}
-use mathlib.Core.Path.{_≡_, refl, sym, ap, ap₂, _∙_, subst, subst₂}
-use mathlib.Core.Bool.{Bool, true, _&&_}
-use mathlib.Core.List.{List, [], _∷_, _++_, map}
+use mathlib.Core.Path.{refl, sym, _∙_, subst, subst₂}
+use mathlib.Core.Bool.{Bool}
+use mathlib.Core.List.{List, [], map}
 use lib.ListN.{length, getD}
 use lib.Pow.{areBytes}
 use lib.Dec.{T, eqb, ltb, lt→ltb}
-use Rattle.laws.specs.Lists.{In, flat}
+use Rattle.laws.specs.Lists.{flat}
 use Rattle.field.specs.Bytes.{bytesOf}
 use Rattle.part_set.specs.Masks.{partsIn}
-use Rattle.paper.specs.Image.{Row, Set, noRow, rowAt, rowBytes, partBytes, imageOf}
-use Rattle.paper.specs.Mesh.{Entity, Parts, noEnt, partsOf, ownerOf}
+use Rattle.paper.specs.Image.{Row, rowAt, rowBytes, partBytes, imageOf}
+use Rattle.paper.specs.Mesh.{Parts, noEnt, ownerOf}
 use Rattle.paper.specs.Sound.{fieldsFit, ordered, boundaryStands, ownedWell}
 use Rattle.paper.specs.Placement.{rowFor, rowsFor}
-use Rattle.laws.proofs.Tests.{both}
-use Rattle.laws.proofs.Members.{eq-eqb, getD-in, in-getD, map-in}
+use Rattle.laws.proofs.Tests.{both, eq-eqb}
+use Rattle.laws.proofs.Members.{getD-in, in-getD, map-in}
 use Rattle.paper.proofs.Codec.{Wide}
 use Rattle.demands.proofs.Fit.Record.{Fit}
 use Rattle.demands.proofs.Rows.Made.{rows-count, rows-part}
 use Rattle.demands.proofs.Fit.Rows.{rowsIn, in-rows, row-at, parts-back}
-use Rattle.demands.proofs.Fit.Fields.{bytes-of, bytes-append, bytes-flat, row-wide, row-fields, row-bytes}
+use Rattle.demands.proofs.Rows.Bytes.{bytes-of, bytes-append, bytes-flat}
+use Rattle.demands.proofs.Fit.Fields.{row-wide, row-fields, row-bytes}
 use Rattle.demands.proofs.Fit.Order.{row-ordered, row-boundary}
 use Rattle.demands.proofs.Fit.Copies.{row-copies}
 use Rattle.demands.proofs.Fit.Residence.{row-resides}

@@ -1,11 +1,14 @@
--- Rule 11, the objects and their counts by what is on a boundary in its own part: for code that keeps one bit a row.
+-- Rule 11, the objects and their counts in a form that costs a row O(1): by rows that some row of their own part has on its boundary.
+-- How code uses it: after rules 7 to 10 one pass over the rows sets a bit at each slot that a body names; a row is covered where its bit is set.
+-- Rule 11 is then "in one part, or covered in every part of its set" (`resides-covered`). After rule 11 a row is an object exactly where it is not
+-- covered (`row-object`), and a part's objects, for rule 12, are its rows that are not (`part-objects`).
 -- Assumes nothing.
-use Prim.Native.Nat.{ℕ, zero, suc, _^_, _<_, _≤_}
+use Prim.Native.Nat.{ℕ, _^_, _<_}
 use native.Mathlib.Omega.{arith}
-use mathlib.Core.Path.{_≡_, refl, sym, ap, ap₂, _∙_, subst, subst₂}
-use mathlib.Core.Bool.{Bool, true, false, cond, not, _||_}
+use mathlib.Core.Path.{_≡_, refl, sym, ap, _∙_, subst}
+use mathlib.Core.Bool.{Bool, not, _||_}
 use mathlib.Core.Logic.{_⊎_, inl, inr}
-use mathlib.Core.List.{List, [], _∷_, map}
+use mathlib.Core.List.{List, [], _∷_}
 use lib.ListN.{length, getD}
 use lib.Dec.{T, eqb, eqb→eq, T-not, not-T}
 use Rattle.laws.specs.Lists.{In, every, some?, keep, flat}
@@ -13,17 +16,21 @@ use Rattle.part_set.specs.Masks.{has, count, partsIn, maskOf}
 use Rattle.paper.specs.Image.{Row, Set, noRow, rowAt}
 use Rattle.paper.specs.Mesh.{Entity, Parts, name, bounds, isObject, holds, entOf, partsOf, objectsIn}
 use Rattle.paper.specs.Sound.{nameOfRow, rowsAbove, residence, residesWell}
-use Rattle.laws.proofs.Members.{or-either, or-l, or-r, iff-eq, eq-eqb, getD-in, in-getD, every-in, in-every, some-in, in-some, in-flat}
-use Rattle.demands.proofs.Entities.Names.{bounds-in, vertex-bounds, not-object}
-use Rattle.part_set.proofs.MaskBits.{has-maskOf, mask-ext}
+use Rattle.laws.proofs.Tests.{or-either, or-l, or-r, iff-eq}
+use Rattle.laws.proofs.Members.{getD-in, in-getD, every-in, in-every, some-in, in-some, in-flat}
+use Rattle.demands.proofs.Entities.Names.{not-object}
+use Rattle.part_set.proofs.MaskBits.{has-maskOf, maskOf-is}
 use Rattle.laws.proofs.Ascending.{only-one}
 use Rattle.part_set.proofs.MaskParts.{has-lt, maskOf-lt, partsIn-in, in-partsIn}
-use Rattle.demands.proofs.Entities.Closed.{Closed, EntOk, fits-closed}
+use Rattle.demands.proofs.Entities.Closed.{Closed, closed-down}
+use Rattle.demands.proofs.Entities.Fits.{EntOk, fits-closed}
 use Rattle.demands.proofs.Fit.Record.{Fit}
-use Rattle.demands.proofs.Sound.Facts.{Copied}
-use Rattle.demands.proofs.Sound.Rows.{ent, part-in, in-part, row-fields, held-has, has-in}
-use Rattle.demands.proofs.Sound.ToFit.{above-in, in-above, res-some, ent-ok, small-part}
-use Rattle.demands.proofs.Fit.Residence.{some-res}
+use Rattle.demands.proofs.Sound.Facts.{Copied, Each}
+use Rattle.demands.proofs.Sound.Rows.{ent, part-in, in-part, row-fields, held-has, has-in, row, parts-at}
+use Rattle.demands.proofs.Sound.Above.{above-in, in-above, some-res}
+use Rattle.demands.proofs.Sound.ToFit.{ent-ok, small-part, resided-fit}
+use Rattle.laws.proofs.Agree.{keep-agree, some-of-map, keep-of-map}
+use lib.ListN.{length-map}
 
 -- some row of part q has k on its boundary
 unfoldable pub covered : Set → ℕ → ℕ → Bool
@@ -50,20 +57,14 @@ module _ (S : Set) (f : Copied S) where
 
   -- what a row names on its boundary is held by the row's part
   down : (q t k : ℕ) → t < length (getD S q []) → T (bounds k (ent S q t)) → T (holds (getD (partsOf S) q []) k)
-  down q t k h b = go (ent S q t .dim) refl
-    where
-      go : (d : ℕ) → ent S q t .dim ≡ d → T (holds (getD (partsOf S) q []) k)
-      go zero e = absurd (vertex-bounds k (ent S q t) e b)
-      go (suc d) e =
-          let w = bounds-in d k (ent S q t) e b in
-          subst (λ (z : ℕ). T (holds (getD (partsOf S) q []) z)) (sym (w .2)) (part-closed q .shape (ent S q t) d (w .0) (in-part S q t h) e (w .1) .1)
+  down q t k h b = closed-down (getD (partsOf S) q []) (part-closed q) k (ent S q t) (in-part S q t h) b
 
   module _ (p s : ℕ) (h : s < length (getD S p [])) where
     k : ℕ
     k = name (ent S p s)
 
     m : ℕ
-    m = getD (getD S p []) s noRow .mask
+    m = row S p s .mask
 
     own-in : In p (partsIn m)
     unfolding m
@@ -101,7 +102,7 @@ module _ (S : Set) (f : Copied S) where
     unfolding k
     covers-row q t =
         let w = covered-row S q k t in
-        (getD (getD S q []) (w .0) noRow, in-above S k q (w .0) (w .1) (w .2), row-fields S f q (w .0) (w .1) .own)
+        (row S q (w .0), in-above S k q (w .0) (w .1) (w .2), row-fields S f q (w .0) (w .1) .own)
 
     to : (rs : List Row) → rowsAbove S k ≡ rs → T (residence (length S) m rs) → T (eqb (count m) 1 || every (λ q. covered S q k) (partsIn m))
     unfolding residence
@@ -132,11 +133,9 @@ module _ (S : Set) (f : Copied S) where
         let w = covers-row p (every-in (λ q. covered S q k) (partsIn m) t p own-in) in absurd (subst (λ (rs : List Row). In (w .0) rs) e (w .1))
     fro (r ∷ rs) e t =
         let i : In r (rowsAbove S k) = subst (λ (x : List Row). In r x) (sym e) (inl refl) in
-        let n = length S in
         let g : ℕ → Bool = λ q. some? (λ a. has (a .mask) q) (rowsAbove S k) in
-        some-res n m (rowsAbove S k) r i (mask-ext n m (maskOf n g) small (maskOf-lt n g) (λ q l.
-        iff-eq (has m q) (g q) (union r i t q) (λ y. let w = some-in (λ a. has (a .mask) q) (rowsAbove S k) y in above-spreads (w .0) (w .1) q (w .2) .0)
-        ∙ sym (has-maskOf n q g l)))
+        some-res (length S) m (rowsAbove S k) r i (sym (maskOf-is (length S) m g small
+        (λ q y. let w = some-in (λ a. has (a .mask) q) (rowsAbove S k) y in above-spreads (w .0) (w .1) q (w .2) .0) (union r i t)))
       where
         small : m < 2 ^ length S
         small = unfold m in row-fields S f p s h .mask
@@ -154,12 +153,6 @@ module _ (S : Set) (f : Copied S) where
 
 -- ---- objects, for parts that fit
 
-keep-agree : {A : Type 0} (f g : A → Bool) (xs : List A) → ((a : A) → In a xs → f a ≡ g a) → keep f xs ≡ keep g xs
-unfolding keep
-keep-agree f g [] h = refl
-keep-agree {A} f g (x ∷ xs) h =
-    ap₂ {C = List A} (λ (b : Bool) (r : List A). cond b (x ∷ r) r) (h x (inl refl)) (keep-agree f g xs (λ a i. h a (inr i)))
-
 module _ (ps : Parts) (F : Fit ps) where
   pub object-uncovered : (p : ℕ) (e : Entity) → In e (getD ps p []) → isObject (flat ps) (name e) ≡ not (some? (bounds (name e)) (getD ps p []))
   object-uncovered p e i =
@@ -176,3 +169,28 @@ module _ (ps : Parts) (F : Fit ps) where
   unfolding objectsIn
   objects-uncovered p =
       ap length (keep-agree (λ e. isObject (flat ps) (name e)) (λ e. not (some? (bounds (name e)) (getD ps p []))) (getD ps p []) (object-uncovered p))
+
+-- ---- objects, for a set that passes rules 7 to 11
+
+covered-part : (S : Set) (p k : ℕ) → some? (bounds k) (getD (partsOf S) p []) ≡ covered S p k
+unfolding covered
+covered-part S p k = ap (some? (bounds k)) (parts-at S p) ∙ some-of-map (bounds k) (entOf (getD S p [])) (getD S p [])
+
+module _ (S : Set) (f : Copied S) (resides : Each S (λ p s. T (residesWell S p s))) where
+  -- a row is an object exactly where no row of its part has it on its boundary
+  pub row-object : (p s : ℕ) → s < length (getD S p []) → isObject (flat (partsOf S)) (nameOfRow (rowAt S p s)) ≡ not (covered S p (nameOfRow (rowAt S p s)))
+  unfolding rowAt entOf
+  row-object p s h =
+      object-uncovered (partsOf S) (resided-fit S f resides) p (ent S p s) (in-part S p s h) ∙ ap not (covered-part S p (name (ent S p s)))
+
+  -- and the objects of a part are counted so
+  pub part-objects : (p : ℕ) → objectsIn (partsOf S) p ≡ length (keep (λ r. not (covered S p (nameOfRow r))) (getD S p []))
+  unfolding entOf
+  part-objects p =
+      let rows = getD S p [] in
+      let open′ : Entity → Bool = λ e. not (some? (bounds (name e)) (getD (partsOf S) p [])) in
+      objects-uncovered (partsOf S) (resided-fit S f resides) p
+      ∙ ap (λ (es : List Entity). length (keep open′ es)) (parts-at S p)
+      ∙ ap length (keep-of-map open′ (entOf rows) rows)
+      ∙ length-map (keep (λ r. open′ (entOf rows r)) rows) (entOf rows)
+      ∙ ap length (keep-agree (λ r. open′ (entOf rows r)) (λ r. not (covered S p (nameOfRow r))) rows (λ r _. ap not (covered-part S p (nameOfRow r))))

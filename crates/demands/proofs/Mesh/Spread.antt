@@ -1,20 +1,21 @@
 -- What each part of a spread holds, and where a name is found in parts.
 -- Assumes nothing.
-use Prim.Native.Nat.{ℕ, zero, suc, _<_, _≤_, suc-le-suc}
+use Prim.Native.Nat.{ℕ, zero, suc, _<_, suc-le-suc}
 use native.Mathlib.Nat.{zero-lt-suc}
-use native.Mathlib.Omega.{arith}
 use mathlib.Core.Path.{_≡_, refl, sym, ap, _∙_, subst}
 use mathlib.Core.Bool.{Bool, true, false, cond}
-use mathlib.Core.Logic.{_⊎_, inl, inr}
-use mathlib.Core.List.{List, [], _∷_, map}
-use lib.ListN.{length, getD, length-map, List·getD-eq-default}
-use lib.Dec.{T, eqb, eqb→eq, ltb}
-use Rattle.laws.specs.Lists.{In, keep, flat, upTo, member}
+use mathlib.Core.List.{List, [], _∷_}
+use lib.ListN.{length, getD, length-map}
+use lib.Dec.{T, eqb, eqb→eq}
+use Rattle.laws.specs.Lists.{In, keep, upTo, member}
 use Rattle.paper.specs.Mesh.{Entity, Parts, name, isObject, holds, closure}
 use Rattle.paper.specs.Placement.{Placement, objects, closures, spread, placeIn}
-use Rattle.laws.proofs.Members.{keep-in, in-keep, member-in, in-member, getD-map, length-upTo, getD-upTo, part-lt, eq-eqb}
-use Rattle.demands.proofs.Entities.Names.{flat-map-in, in-flat-map}
+use Rattle.laws.proofs.Members.{keep-in, in-keep, member-in, in-member, part-lt, flat-map-in, in-flat-map}
+use Rattle.laws.proofs.Agree.{getD-map}
+use Rattle.laws.proofs.Ranges.{length-upTo, getD-upTo}
+use Rattle.laws.proofs.Tests.{eq-eqb}
 use Rattle.demands.proofs.Entities.Closures.{closureOf}
+use native.Mathlib.Nat.{not-suc-le-zero, le-of-suc-le-suc}
 
 -- k is in the closure of an object that is placed in p
 pub record Under (es : List Entity) (place : Placement) (p k : ℕ) : Type 0 where
@@ -72,13 +73,13 @@ module _ (n : ℕ) (es : List Entity) (place : Placement) where
 -- a name that some part holds is found in the first that does
 pub place-found : (ps : Parts) (p k : ℕ) → p < length ps → T (holds (getD ps p []) k) → (placeIn ps k < length ps) × T (holds (getD ps (placeIn ps k) []) k)
 unfolding placeIn
-place-found [] p k h t = absurd (native.Mathlib.Nat.not-suc-le-zero h)
+place-found [] p k h t = absurd (not-suc-le-zero h)
 place-found (es ∷ ps) zero k h t = go (holds es k) refl t
   where
     go : (b : Bool) → holds es k ≡ b → T b → (cond b 0 (suc (placeIn ps k)) < suc (length ps)) × T (holds (getD (es ∷ ps) (cond b 0 (suc (placeIn ps k))) []) k)
     go true e s = (zero-lt-suc (length ps), subst T (sym e) tt)
     go false e s = absurd s
-place-found (es ∷ ps) (suc p) k h t = go (holds es k) refl (place-found ps p k (native.Mathlib.Nat.le-of-suc-le-suc h) t)
+place-found (es ∷ ps) (suc p) k h t = go (holds es k) refl (place-found ps p k (le-of-suc-le-suc h) t)
   where
     go : (b : Bool) → holds es k ≡ b → (placeIn ps k < length ps) × T (holds (getD ps (placeIn ps k) []) k)
         → (cond b 0 (suc (placeIn ps k)) < suc (length ps)) × T (holds (getD (es ∷ ps) (cond b 0 (suc (placeIn ps k))) []) k)

@@ -1,25 +1,28 @@
 -- Mesh to Fit: a mesh spreads into parts that fit, which hold the mesh and have its objects where they were placed.
 -- Assumes nothing.
-use Prim.Native.Nat.{ℕ, suc, _<_, _≤_}
-use native.Mathlib.Omega.{arith}
+use Prim.Native.Nat.{ℕ, _<_, _≤_}
 use mathlib.Core.Path.{_≡_, refl, sym, ap, _∙_, subst}
-use mathlib.Core.Bool.{Bool}
 use mathlib.Core.Logic.{_⊎_, inl, inr}
-use mathlib.Core.List.{List, [], _∷_, map}
-use lib.ListN.{length, getD, List·getD-eq-default}
-use lib.Dec.{T, ltb, leb, ltb→lt, leb→le}
-use Rattle.laws.specs.Lists.{In, every, keep, flat, ascending, pairwise, member}
-use Rattle.paper.specs.Mesh.{Entity, Parts, nameOf, name, bounds, isObject, holds, sortEnts, meshOf}
+use mathlib.Core.List.{List, [], map}
+use lib.ListN.{getD, List·getD-eq-default}
+use lib.Dec.{T, ltb, ltb→lt, leb→le}
+use Rattle.laws.specs.Lists.{In, every, flat, ascending, member}
+use Rattle.paper.specs.Mesh.{Entity, nameOf, name, bounds, isObject, holds, sortEnts, meshOf}
 use Rattle.paper.specs.Placement.{Placement, objects, closures, spread, placeIn, placesOf, entFits, meshFits, WellPlaced}
-use Rattle.laws.proofs.Tests.{split2}
-use Rattle.demands.proofs.Entities.Ascending.{ascending-ext}
-use Rattle.laws.proofs.Members.{decide, in-flat, flat-in, every-in, in-map, map-same}
+use Rattle.laws.proofs.Tests.{split2, decide}
+use Rattle.laws.proofs.Keyed.{ascending-ext, ascends-uniq, keep-ascends}
+use Rattle.laws.proofs.Members.{in-flat, flat-in, every-in, in-map}
+use Rattle.laws.proofs.Agree.{map-same}
 use Rattle.demands.proofs.Entities.Names.{Uniq, holds-in, in-holds, in-bounds, object-same, object-or, not-object}
-use Rattle.demands.proofs.Entities.Sorted.{sort-in, in-sort, sort-ascends, ascends-uniq, keep-ascends}
-use Rattle.demands.proofs.Entities.Closed.{Closed, EntOk, ok-of, fits-closed, ok-down}
+use Rattle.demands.proofs.Entities.Sorted.{sort-in, in-sort, sort-ascends}
+use Rattle.demands.proofs.Entities.Closed.{Closed}
+use Rattle.demands.proofs.Entities.Fits.{EntOk, ok-of, fits-closed, ok-down}
 use Rattle.demands.proofs.Entities.Closures.{closureOf, closure-down, closure-top, in-closure}
 use Rattle.demands.proofs.Mesh.Spread.{Under, objects-in, in-objects, spread-length, spread-part, spread-in, in-spread, place-found}
 use Rattle.demands.proofs.Fit.Record.{Fit}
+use mathlib.Core.Bool.{not}
+use lib.Dec.{nltb→le}
+use Rattle.demands.proofs.Fit.Held.{flat-uniq}
 
 module _ (n : ℕ) (es : List Entity) (place : Placement) (W : WellPlaced n es place) where
   ascends : T (ascending (map name es))
@@ -31,7 +34,7 @@ module _ (n : ℕ) (es : List Entity) (place : Placement) (W : WellPlaced n es p
   ok e i = ok-of es e (every-in (entFits es) es (split2 (ascending (map name es)) (every (entFits es) es) (W .mesh) .1) e i)
 
   uniq : Uniq es
-  uniq = ascends-uniq es ascends
+  uniq = ascends-uniq name es ascends
 
   closed : Closed es
   closed = fits-closed es ok
@@ -57,13 +60,13 @@ module _ (n : ℕ) (es : List Entity) (place : Placement) (W : WellPlaced n es p
   unfolding sortEnts
   part-ascends p = go (decide (ltb p n))
     where
-      go : T (ltb p n) ⊎ T (mathlib.Core.Bool.not (ltb p n)) → T (ascending (map name (getD (spread n es place) p [])))
+      go : T (ltb p n) ⊎ T (not (ltb p n)) → T (ascending (map name (getD (spread n es place) p [])))
       go (inl h) =
           subst (λ (l : List Entity). T (ascending (map name l))) (sym (spread-part n es place p (ltb→lt p n h)))
-          (keep-ascends (λ e. member (name e) (closures es place p)) es ascends)
+          (keep-ascends name (λ e. member (name e) (closures es place p)) es ascends)
       go (inr h) =
           subst (λ (l : List Entity). T (ascending (map name l)))
-          (sym (List·getD-eq-default (spread n es place) [] (subst (λ (z : ℕ). z ≤ p) (sym (spread-length n es place)) (lib.Dec.nltb→le p n h)))) (sort-ascends [])
+          (sym (List·getD-eq-default (spread n es place) [] (subst (λ (z : ℕ). z ≤ p) (sym (spread-length n es place)) (nltb→le p n h)))) (sort-ascends [])
 
   -- what is on the boundary of something of a part is in the part
   down : (p : ℕ) (e f : Entity) → In e (getD (spread n es place) p []) → In f es → T (bounds (name f) e) → In f (getD (spread n es place) p [])
@@ -91,7 +94,7 @@ module _ (n : ℕ) (es : List Entity) (place : Placement) (W : WellPlaced n es p
 
   part-fits : (p : ℕ) (e : Entity) → In e (getD (spread n es place) p []) → EntOk (getD (spread n es place) p []) e
   part-fits p e i =
-      ok-down (getD (spread n es place) p []) es (part-closed p) (ascends-uniq (getD (spread n es place) p []) (part-ascends p)) uniq (inc p) e i (ok e (inc p e i))
+      ok-down (getD (spread n es place) p []) es (part-closed p) (ascends-uniq name (getD (spread n es place) p []) (part-ascends p)) uniq (inc p) e i (ok e (inc p e i))
 
   object-is : (k : ℕ) → isObject (flat (spread n es place)) k ≡ isObject es k
   object-is k =
@@ -130,15 +133,9 @@ module _ (n : ℕ) (es : List Entity) (place : Placement) (W : WellPlaced n es p
   pub spread-mesh : meshOf (spread n es place) ≡ es
   unfolding meshOf
   spread-mesh =
-      ascending-ext (sortEnts (flat (spread n es place))) es (sort-ascends (flat (spread n es place))) ascends
+      ascending-ext name (sortEnts (flat (spread n es place))) es (sort-ascends (flat (spread n es place))) ascends
       (λ e i. let w = flat-in (spread n es place) e (sort-in (flat (spread n es place)) e i) in inc (w .0) e (w .2))
-      (λ e i. let w = somewhere e i in in-sort (flat (spread n es place)) flat-uniq e (in-flat (spread n es place) (w .0) e (w .2)))
-    where
-      flat-uniq : Uniq (flat (spread n es place))
-      flat-uniq e f i j q =
-          let a = flat-in (spread n es place) e i in
-          let b = flat-in (spread n es place) f j in
-          uniq e f (inc (a .0) e (a .2)) (inc (b .0) f (b .2)) q
+      (λ e i. let w = somewhere e i in in-sort (flat (spread n es place)) (flat-uniq (spread n es place) spread-fit) e (in-flat (spread n es place) (w .0) e (w .2)))
 
   found-at : (e : Entity) → In e es → T (isObject es (name e)) → placeIn (spread n es place) (name e) ≡ place (name e)
   found-at e i t =

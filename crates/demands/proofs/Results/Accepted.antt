@@ -13,18 +13,19 @@ use Rattle.paper.specs.Image.{Set, rowTotal}
 use Rattle.paper.specs.Mesh.{Entity, Parts, name, isObject, holds, partsOf, meshOf}
 use Rattle.paper.specs.Sound.{maxImage, soundOf}
 use Rattle.paper.specs.Move.{entryName, entryPart, allEntries, entryFits, Migrated, migrated, sizeSet, migrateSet, migrateOf}
-use Rattle.laws.proofs.Members.{iff-eq, in-flat, flat-in}
+use Rattle.laws.proofs.Members.{in-flat, flat-in}
 use Rattle.paper.proofs.Outcomes.{accepted-inj, bind-inv, then-inv, must-inv}
 use Rattle.demands.proofs.Entities.Names.{holds-in, in-holds}
 use Rattle.demands.proofs.Rows.Entries.{entries-inv}
-use Rattle.demands.proofs.Rows.Faults.{must-ok, then-ok, bind-ok}
 use Rattle.demands.proofs.Fit.Record.{Fit}
 use Rattle.demands.proofs.Fit.ToMesh.{in-mesh, mesh-in, mesh-object}
 use Rattle.demands.proofs.Sound.Facts.{sound-inv}
 use Rattle.demands.proofs.Sound.ToFit.{sound-fit}
 use Rattle.demands.proofs.Theorems.Statements.{Accepts, mesh}
-use Rattle.demands.proofs.Theorems.Moves.{migrate-is}
 use Rattle.demands.proofs.Results.Entries.{entries-ok}
+use Rattle.laws.proofs.Tests.{iff-eq}
+use Rattle.demands.proofs.Rows.Outcomes.{must-ok, then-ok, bind-ok}
+use Rattle.demands.proofs.Theorems.Went.{migrate-is}
 
 -- 13 to 16: the entries stand, name parts below n, and name objects of es
 pub record Listed (n : ℕ) (es : List Entity) (l : List ℕ) : Type 0 where

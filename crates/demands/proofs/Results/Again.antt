@@ -14,9 +14,10 @@ use Rattle.paper.specs.Sound.{maxImage}
 use Rattle.paper.specs.Placement.{Placement, objects, placesOf}
 use Rattle.paper.specs.Move.{destOf, moved, Migrated, migrated, migrateOf}
 use Rattle.demands.proofs.Theorems.Statements.{mesh, places}
-use Rattle.demands.proofs.Theorems.Moves.{Now, moved-same}
 use Rattle.demands.proofs.Results.Accepted.{Listed, Room, move-accepts}
 use Rattle.demands.proofs.Results.Lands.{After, after, stays, set-of}
+use Rattle.demands.proofs.Theorems.Now.{Now}
+use Rattle.demands.proofs.Theorems.Destinations.{moved-same}
 
 -- destinations taken twice are taken once
 moved-twice : (l : List ℕ) (place : Placement) → moved l (moved l place) ≡ moved l place

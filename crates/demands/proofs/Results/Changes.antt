@@ -6,7 +6,7 @@ use mathlib.Core.Bool.{Bool, cond}
 use mathlib.Core.List.{List, [], _∷_}
 use lib.Dec.{T, eqb, eqb-refl, eqb→eq}
 use Rattle.paper.specs.Move.{changes}
-use Rattle.laws.proofs.Members.{T-true, iff-eq, eq-eqb}
+use Rattle.laws.proofs.Tests.{T-true, iff-eq, eq-eqb}
 
 pub changes-none : (xs : List ℕ) → changes xs xs ≡ 0
 unfolding changes

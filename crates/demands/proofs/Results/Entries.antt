@@ -9,7 +9,7 @@ use lib.Dec.{T, T-not}
 use Rattle.laws.specs.Lists.{upTo, firstBad}
 use Rattle.paper.specs.Outcome.{accepted, unless}
 use Rattle.paper.specs.Move.{allEntries, entriesMust}
-use Rattle.demands.proofs.Rows.Entries.{bad-lt}
+use Rattle.laws.proofs.FirstBad.{bad-lt}
 
 -- what was found fails
 pub bad-fails : (ok : ℕ → Bool) (is : List ℕ) (i : ℕ) → firstBad ok is ≡ some i → T (not (ok i))

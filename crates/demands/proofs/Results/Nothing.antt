@@ -18,9 +18,10 @@ use Rattle.demands.proofs.Fit.ToMesh.{in-mesh, mesh-in, object-found}
 use Rattle.demands.proofs.Sound.Facts.{sound-inv}
 use Rattle.demands.proofs.Sound.Rows.{ent, parts-count, slot-is}
 use Rattle.demands.proofs.Theorems.Statements.{Accepts, mesh, places}
-use Rattle.demands.proofs.Theorems.Moves.{Now, same-bytes}
 use Rattle.demands.proofs.Results.Accepted.{image-fit}
 use Rattle.demands.proofs.Results.Lands.{After, after}
+use Rattle.demands.proofs.Theorems.Now.{Now}
+use Rattle.demands.proofs.Theorems.SameBytes.{same-bytes}
 
 -- of a set S′ and a mesh es
 pub record Whole (es : List Entity) (S′ : Set) : Type 0 where

@@ -19,11 +19,12 @@ use Rattle.demands.proofs.Fit.Record.{Fit}
 use Rattle.demands.proofs.Fit.ToMesh.{mesh-in, found}
 use Rattle.demands.proofs.Sound.Rows.{parts-count}
 use Rattle.demands.proofs.Theorems.Statements.{Accepts, mesh, places}
-use Rattle.demands.proofs.Theorems.Moves.{Now, moved-same}
 use Rattle.demands.proofs.Results.Accepted.{Listed, Room, move-accepts, move-accepted, image-fit, image-small}
 use Rattle.demands.proofs.Results.Changes.{changes-sym}
 use Rattle.demands.proofs.Results.Lands.{After, after, lands}
 use Rattle.demands.proofs.Results.ReverseList.{moved-back, reverse-listed, reverse-bytes}
+use Rattle.demands.proofs.Theorems.Now.{Now}
+use Rattle.demands.proofs.Theorems.Destinations.{moved-same}
 
 -- what an image holds is in one of its parts
 held : (b : List ℕ) (S : Set) → T (areBytes b) → Accepts b S → (k : ℕ) → T (holds (mesh S) k) → places S k < length S

@@ -17,11 +17,10 @@ use Rattle.paper.specs.Mesh.{Entity, isObject, holds}
 use Rattle.paper.specs.Placement.{Placement}
 use Rattle.paper.specs.Move.{entryName, entryPart, wholeEntries, allEntries, ascends, entryFits, destOf, moved}
 use Rattle.demands.specs.Reverse.{turned, reverseOf}
-use Rattle.laws.proofs.Tests.{and-l, and-r, both, split4}
-use Rattle.laws.proofs.Members.{decide, eq-eqb}
-use Rattle.demands.proofs.Rows.Entries.{bad-lt}
+use Rattle.laws.proofs.Tests.{and-l, and-r, both, split4, decide, eq-eqb}
 use Rattle.demands.proofs.Results.Entries.{bad-fails}
 use Rattle.demands.proofs.Results.Accepted.{Listed}
+use Rattle.laws.proofs.FirstBad.{bad-lt}
 
 set-bytes : (b : List ℕ) (i v : ℕ) → T (areBytes b) → v < 256 → T (areBytes (set b i v))
 set-bytes [] i v y h = y

@@ -1,36 +1,20 @@
 -- A set has no fault exactly where each row passes.
 -- Assumes nothing.
-use Prim.Native.Nat.{ℕ, zero, suc, _+_, _<_, suc-le-suc}
-use native.Mathlib.Nat.{not-suc-le-zero, le-of-suc-le-suc, zero-lt-suc}
+use Prim.Native.Nat.{ℕ, zero, suc, _+_, _<_}
+use native.Mathlib.Nat.{not-suc-le-zero}
 use native.Mathlib.Omega.{arith}
 use mathlib.Core.Path.{_≡_, refl, sym, ap, _∙_, subst}
-use mathlib.Core.Bool.{Bool, true, false, cond}
-use mathlib.Core.List.{List, [], _∷_}
+use mathlib.Core.Bool.{Bool}
+use mathlib.Core.List.{[], _∷_}
 use mathlib.Core.Option.{Option, none, some, Option·some-ne-none}
 use lib.ListN.{length, getD}
 use lib.Dec.{T}
-use Rattle.laws.specs.Lists.{from, upTo, firstBad}
-use Rattle.paper.specs.Outcome.{Outcome, Place, accepted, unless, must, get, _>>=_, _>>_}
-use Rattle.paper.specs.Image.{Row, Set}
+use Rattle.laws.specs.Lists.{upTo, firstBad}
+use Rattle.paper.specs.Outcome.{Place, accepted, unless}
+use Rattle.paper.specs.Image.{Set}
 use Rattle.paper.specs.Sound.{firstFault, rowsMust}
-use Rattle.paper.proofs.Outcomes.{not-refused, accepted-inj}
-use Rattle.demands.proofs.Rows.Entries.{none-bad}
-
-all-from : (ok : ℕ → Bool) (n a : ℕ) → ((k : ℕ) → k < n → T (ok (a + k))) → firstBad ok (from a n) ≡ none
-unfolding firstBad from
-all-from ok zero a h = refl
-all-from ok (suc n) a h =
-    let e : a + 0 ≡ a = omega arith in
-    go (ok a) (subst (λ (z : ℕ). T (ok z)) e (h 0 (zero-lt-suc n)))
-    (all-from ok n (suc a) (λ k l. let e : a + suc k ≡ suc a + k = omega arith in subst (λ (z : ℕ). T (ok z)) e (h (suc k) (suc-le-suc l))))
-  where
-    go : (b : Bool) → T b → firstBad ok (from (suc a) n) ≡ none → cond b (firstBad ok (from (suc a) n)) (some a) ≡ none
-    go true t e = e
-    go false t e = absurd t
-
-all-none : (ok : ℕ → Bool) (n : ℕ) → ((k : ℕ) → k < n → T (ok k)) → firstBad ok (upTo n) ≡ none
-unfolding upTo
-all-none ok n h = all-from ok n 0 (λ k l. let e : k ≡ 0 + k = omega arith in subst (λ (z : ℕ). T (ok z)) e (h k l))
+use Rattle.paper.proofs.Outcomes.{not-refused}
+use Rattle.laws.proofs.FirstBad.{none-bad, all-none}
 
 -- one part's fault, or that of the parts behind it
 abbrev orElse : ℕ → Option ℕ → Option Place → Option Place
@@ -73,24 +57,3 @@ rows-inv k S ok u e p s h =
 pub rows-ok : (k : ℕ) (S : Set) (ok : ℕ → ℕ → Bool) → ((p s : ℕ) → s < length (getD S p []) → T (ok p s)) → rowsMust k S ok ≡ accepted tt
 unfolding rowsMust unless
 rows-ok k S ok h = ap (unless k) (none-fault ok 0 S (λ p s l. let z : p ≡ 0 + p = omega arith in subst (λ (i : ℕ). T (ok i s)) z (h p s l)))
-
--- ---- a `do` block goes on
-
-pub must-ok : (k : ℕ) (t : Bool) → T t → must k t ≡ accepted tt
-unfolding must
-must-ok k true h = refl
-must-ok k false h = absurd h
-
-pub get-inv : {A : Type 0} (k : ℕ) (o : Option A) (a : A) → get k o ≡ accepted a → o ≡ some a
-unfolding get
-get-inv k none a e = absurd (not-refused e)
-get-inv k (some x) a e = ap some (accepted-inj e)
-
-module _ {A B : Type 0} where
-  pub then-ok : (m : Outcome A) (n : Outcome B) (a : A) → m ≡ accepted a → (m >> n) ≡ n
-  unfolding _>>_
-  then-ok m n a e = ap (λ (x : Outcome A). x >> n) e
-
-  pub bind-ok : (m : Outcome A) (f : A → Outcome B) (a : A) → m ≡ accepted a → (m >>= f) ≡ f a
-  unfolding _>>=_
-  bind-ok m f a e = ap (λ (x : Outcome A). x >>= f) e

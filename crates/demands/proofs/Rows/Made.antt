@@ -1,18 +1,19 @@
 -- The rows that parts make, part by part.
 -- Assumes nothing.
 use Prim.Native.Nat.{ℕ, _<_, _≤_}
-use native.Mathlib.Omega.{arith}
-use mathlib.Core.Path.{_≡_, refl, sym, ap, _∙_, subst}
+use mathlib.Core.Path.{_≡_, sym, ap, _∙_, subst}
 use mathlib.Core.Bool.{not}
 use mathlib.Core.Logic.{_⊎_, inl, inr}
-use mathlib.Core.List.{List, [], _∷_, map}
+use mathlib.Core.List.{List, [], map}
 use lib.ListN.{length, getD, length-map, List·getD-eq-default}
 use lib.Dec.{T, ltb, ltb→lt, nltb→le}
 use Rattle.laws.specs.Lists.{upTo}
-use Rattle.paper.specs.Image.{Row, Set}
-use Rattle.paper.specs.Mesh.{Entity, Parts}
+use Rattle.paper.specs.Image.{Row}
+use Rattle.paper.specs.Mesh.{Parts}
 use Rattle.paper.specs.Placement.{rowFor, rowsFor}
-use Rattle.laws.proofs.Members.{decide, getD-map, length-upTo, getD-upTo}
+use Rattle.laws.proofs.Tests.{decide}
+use Rattle.laws.proofs.Agree.{getD-map}
+use Rattle.laws.proofs.Ranges.{length-upTo, getD-upTo}
 
 pub rows-count : (ps : Parts) → length (rowsFor ps) ≡ length ps
 unfolding rowsFor

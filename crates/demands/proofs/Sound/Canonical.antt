@@ -1,69 +1,62 @@
 -- The rows of a sound set are those that its parts make.
 -- Assumes nothing.
-use Prim.Native.Nat.{ℕ, zero, suc, _+_, _-_, _*_, _^_, _<_, _≤_}
+use Prim.Native.Nat.{ℕ, zero, suc, _+_, _-_, _*_, _^_, _<_}
 use native.Mathlib.Omega.{arith}
-use mathlib.Core.Path.{_≡_, refl, sym, ap, ap₂, _∙_, subst}
-use mathlib.Core.Bool.{Bool}
-use mathlib.Core.List.{List, [], _∷_, _++_, map}
-use lib.ListN.{length, getD, replicate, length-map}
+use mathlib.Core.Path.{_≡_, refl, sym, ap, _∙_, subst}
+use mathlib.Core.List.{List, [], _++_, map}
+use lib.ListN.{length, getD, replicate}
 use lib.Seq.{ext-getD}
-use lib.Dec.{T, eqb, eqb→eq}
-use Rattle.laws.specs.Lists.{In, flat, every}
-use Rattle.field.specs.Bytes.{words, longs, bytesOf}
-use Rattle.part_set.specs.Masks.{has, partsIn, others, maskOf}
+use lib.Dec.{T, eqb→eq}
+use Rattle.laws.specs.Lists.{flat}
+use Rattle.field.specs.Bytes.{words, bytesOf}
+use Rattle.part_set.specs.Masks.{partsIn, others}
 use Rattle.paper.specs.Image.{Row, Set, noRow, rowAt}
-use Rattle.paper.specs.Mesh.{Entity, Parts, nameOf, name, slotsOf, shapeOf, entOf, partsOf, holds, slotIn, ownerOf}
+use Rattle.paper.specs.Mesh.{Entity, nameOf, name, slotsOf, shapeOf, entOf, partsOf, holds, slotIn, ownerOf}
 use Rattle.paper.specs.Sound.{bodyFits, remoteSlot, ownedWell}
 use Rattle.paper.specs.Placement.{residenceIn, bodyIn, rowFor, rowsFor}
-use Rattle.laws.proofs.Members.{map-of-map, iff-eq, map-same, getD-map, in-getD}
+use Rattle.laws.proofs.Agree.{map-of-map, map-same, map-self}
+use Rattle.laws.proofs.Members.{in-getD}
 use Rattle.demands.proofs.Entities.Names.{in-holds}
-use Rattle.part_set.proofs.MaskBits.{has-maskOf, mask-ext}
-use Rattle.laws.proofs.Ascending.{read-places}
-use Rattle.part_set.proofs.MaskParts.{maskOf-lt, has-lt, others-ascends}
+use Rattle.part_set.proofs.MaskBits.{maskOf-is}
+use Rattle.laws.proofs.Places.{read-places}
+use Rattle.part_set.proofs.MaskParts.{others-ascends}
 use Rattle.paper.proofs.Remotes.{remotes-others}
 use Rattle.demands.proofs.Rows.Bodies.{vertex-body, slots-body}
 use Rattle.demands.proofs.Rows.Made.{rows-count, rows-part}
 use Rattle.demands.proofs.Sound.Facts.{Sound}
-use Rattle.demands.proofs.Sound.Rows.{ent, parts-at, parts-count, in-part, row-fields, row-wide, slot-is, Twin, twin, held-has, has-in}
-use Rattle.demands.proofs.Sound.ToFit.{SlotsOk, row-slots}
+use Rattle.demands.proofs.Sound.Rows.{ent, parts-at, parts-count, row-fields, row-wide, slot-is, twin, held-has, has-in, in-part, row}
+use Rattle.demands.proofs.Sound.ToFit.{row-slots, small-part}
 
 module _ (S : Set) (f : Sound S) where
   -- the residence set is that of the parts which hold the entity
-  mask-is : (p s : ℕ) → s < length (getD S p []) → residenceIn (partsOf S) (name (ent S p s)) ≡ getD (getD S p []) s noRow .mask
+  pub mask-is : (p s : ℕ) → s < length (getD S p []) → residenceIn (partsOf S) (name (ent S p s)) ≡ row S p s .mask
   unfolding residenceIn
   mask-is p s h =
       let k = name (ent S p s) in
-      let m = getD (getD S p []) s noRow .mask in
-      let n = length (partsOf S) in
-      let hold : ℕ → Bool = λ q. holds (getD (partsOf S) q []) k in
-      mask-ext n (maskOf n hold) m (maskOf-lt n hold) (subst (λ (z : ℕ). m < 2 ^ z) (sym (parts-count S)) (row-fields S (f .copied) p s h .mask))
-      (λ q l. has-maskOf n q hold l ∙ iff-eq (hold q) (has m q) (held-has S (f .copied) p s q h) (λ t. in-holds (getD (partsOf S) q []) (ent S p s) (has-in S (f .copied) p s q h t)))
-
-  small : (p s : ℕ) → s < length (getD S p []) → p < 64
-  small p s h =
-      let k = row-fields S (f .copied) p s h in
-      omega (arith, has-lt (length S) (getD (getD S p []) s noRow .mask) p (k .mask) (k .own), f .copied .few-parts)
+      let m = row S p s .mask in
+      maskOf-is (length (partsOf S)) m (λ q. holds (getD (partsOf S) q []) k) (subst (λ (z : ℕ). m < 2 ^ z) (sym (parts-count S)) (row-fields S (f .copied) p s h .mask))
+      (λ q. held-has S (f .copied) p s q h) (λ q t. in-holds (getD (partsOf S) q []) (ent S p s) (has-in S (f .copied) p s q h t))
 
   -- the remote slots are the places of the entity in the other parts
   slots-are : (p s : ℕ) → s < length (getD S p [])
-      → map (λ q. slotIn (getD (partsOf S) q []) (name (ent S p s))) (others (getD (getD S p []) s noRow .mask) p) ≡ getD (getD S p []) s noRow .slots
+      → map (λ q. slotIn (getD (partsOf S) q []) (name (ent S p s))) (others (row S p s .mask) p) ≡ row S p s .slots
   unfolding remoteSlot
   slots-are p s h =
-      let r = getD (getD S p []) s noRow in
+      let r = row S p s in
       let k = name (ent S p s) in
       let os = others (r .mask) p in
       map-same (λ q. slotIn (getD (partsOf S) q []) k) (λ q. remoteSlot r p q) os
       (λ q i. let w = twin S (f .copied) p s q h i in
       ap (λ (e : Entity). slotIn (getD (partsOf S) q []) (name e)) (w .ent-same) ∙ slot-is S (f .copied) q (remoteSlot r p q) (w .slot))
       ∙ read-places os (r .slots) (others-ascends (r .mask) p)
-      (row-wide S (f .copied) p s h .row .slots ∙ sym (remotes-others (r .mask) p (small p s h) (row-fields S (f .copied) p s h .own)))
+      (row-wide S (f .copied) p s h .row .slots ∙ sym (remotes-others (r .mask) p (small-part S (f .copied) p (ent S p s) (in-part S p s h)) (row-fields S (f .copied) p s h .own)))
 
   -- the body is written from the shape
-  body-is : (p s : ℕ) → s < length (getD S p []) → (d : ℕ) → getD (getD S p []) s noRow .dim ≡ d
-      → bodyIn (getD (partsOf S) p []) d (shapeOf (getD S p []) d (getD (getD S p []) s noRow .body)) ≡ getD (getD S p []) s noRow .body
+  body-is : (p s : ℕ) → s < length (getD S p []) → (d : ℕ) → row S p s .dim ≡ d
+      → bodyIn (getD (partsOf S) p []) d (shapeOf (getD S p []) d (row S p s .body)) ≡ row S p s .body
   unfolding bodyIn shapeOf slotsOf bodyFits
   body-is p s h zero e =
-      let r = getD (getD S p []) s noRow in
+      let r = row S p s in
       let w = row-wide S (f .copied) p s h in
       vertex-body (r .body) (w .body) (w .row .body)
   body-is p s h (suc d) e =
@@ -81,25 +74,25 @@ module _ (S : Set) (f : Sound S) where
       ∙ slots-body d (r .body) (w .body) (w .row .body) (omega (arith, e, row-fields S (f .copied) p s h .dim))
       (subst (λ (k : ℕ). T (bodyFits k (r .body))) e (row-fields S (f .copied) p s h .body))
     where
-      slot-of : (p t d : ℕ) → t < length (getD S p []) → getD (getD S p []) t noRow .dim ≡ d → slotIn (getD (partsOf S) p []) (nameOf d (getD (getD S p []) t noRow .number)) ≡ t
-      slot-of p t d l e = unfold entOf in ap (λ (z : ℕ). slotIn (getD (partsOf S) p []) (nameOf z (getD (getD S p []) t noRow .number))) (sym e) ∙ slot-is S (f .copied) p t l
+      slot-of : (p t d : ℕ) → t < length (getD S p []) → row S p t .dim ≡ d → slotIn (getD (partsOf S) p []) (nameOf d (row S p t .number)) ≡ t
+      slot-of p t d l e = unfold entOf in ap (λ (z : ℕ). slotIn (getD (partsOf S) p []) (nameOf z (row S p t .number))) (sym e) ∙ slot-is S (f .copied) p t l
 
-  owner-is : (p s : ℕ) → s < length (getD S p []) → ownerOf (partsOf S) (partsIn (getD (getD S p []) s noRow .mask)) ≡ getD (getD S p []) s noRow .owner
+  owner-is : (p s : ℕ) → s < length (getD S p []) → ownerOf (partsOf S) (partsIn (row S p s .mask)) ≡ row S p s .owner
   unfolding ownedWell rowAt
-  owner-is p s h = let r = getD (getD S p []) s noRow in sym (eqb→eq (r .owner) (ownerOf (partsOf S) (partsIn (r .mask))) (f .owner p s h))
+  owner-is p s h = let r = row S p s in sym (eqb→eq (r .owner) (ownerOf (partsOf S) (partsIn (r .mask))) (f .owner p s h))
 
-  row-is : (p s : ℕ) → s < length (getD S p []) → rowFor (partsOf S) p (ent S p s) ≡ getD (getD S p []) s noRow
+  row-is : (p s : ℕ) → s < length (getD S p []) → rowFor (partsOf S) p (ent S p s) ≡ row S p s
   unfolding rowFor entOf
   row-is p s h = λ i.
       record {
-        number = getD (getD S p []) s noRow .number;
-        dim = getD (getD S p []) s noRow .dim;
+        number = row S p s .number;
+        dim = row S p s .dim;
         owner = (ap (λ (m : ℕ). ownerOf (partsOf S) (partsIn m)) (mask-is p s h) ∙ owner-is p s h) i;
-        kind = getD (getD S p []) s noRow .kind;
+        kind = row S p s .kind;
         pad = sym (row-fields S (f .copied) p s h .pad) i;
         mask = mask-is p s h i;
-        value = getD (getD S p []) s noRow .value;
-        body = body-is p s h (getD (getD S p []) s noRow .dim) refl i;
+        value = row S p s .value;
+        body = body-is p s h (row S p s .dim) refl i;
         slots = (ap (λ (m : ℕ). map (λ q. slotIn (getD (partsOf S) q []) (name (ent S p s))) (others m p)) (mask-is p s h) ∙ slots-are p s h) i;
       }
 
@@ -108,12 +101,8 @@ module _ (S : Set) (f : Sound S) where
       let rows = getD S p [] in
       let same : getD (rowsFor (partsOf S)) p [] ≡ map (λ r. rowFor (partsOf S) p (entOf rows r)) rows =
       rows-part (partsOf S) p ∙ ap (map (rowFor (partsOf S) p)) (parts-at S p) ∙ map-of-map (rowFor (partsOf S) p) (entOf rows) rows in
-      sym (same ∙ map-same (λ r. rowFor (partsOf S) p (entOf rows r)) (λ r. r) rows
-      (λ r i. let w = in-getD rows r noRow i in ap (λ (x : Row). rowFor (partsOf S) p (entOf rows x)) (w .2) ∙ row-is p (w .0) (w .1) ∙ sym (w .2)) ∙ map-self rows)
-    where
-      map-self : (l : List Row) → map (λ r. r) l ≡ l
-      map-self [] = refl
-      map-self (x ∷ l) = ap (λ (r : List Row). x ∷ r) (map-self l)
+      sym (same ∙ map-self (λ r. rowFor (partsOf S) p (entOf rows r)) rows
+      (λ r i. let w = in-getD rows r noRow i in ap (λ (x : Row). rowFor (partsOf S) p (entOf rows x)) (w .2) ∙ row-is p (w .0) (w .1) ∙ sym (w .2)))
 
   pub sound-canon : S ≡ rowsFor (partsOf S)
   sound-canon = ext-getD [] S (rowsFor (partsOf S)) (sym (rows-count (partsOf S) ∙ parts-count S)) (λ p h. part-is p)

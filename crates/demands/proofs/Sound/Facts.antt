@@ -1,24 +1,26 @@
 -- A sound set, rule by rule and row by row, and that an image is accepted exactly where its set is sound.
 -- Assumes nothing.
-use Prim.Native.Nat.{ℕ, zero, suc, _+_, _^_, _<_, _≤_}
+use Prim.Native.Nat.{ℕ, _^_, _<_, _≤_}
 use native.Mathlib.Omega.{arith}
 use mathlib.Core.Path.{_≡_, refl, sym, ap, ap₂, _∙_, subst}
-use mathlib.Core.Bool.{Bool, _&&_}
-use mathlib.Core.List.{List, [], _∷_, _++_, map}
-use mathlib.Core.Option.{Option, some}
-use lib.ListN.{length, getD, take, drop, length-append}
+use mathlib.Core.Bool.{_&&_}
+use mathlib.Core.List.{List, [], _∷_}
+use mathlib.Core.Option.{some}
+use lib.ListN.{length, getD, take, drop}
 use lib.Dec.{T, eqb, ltb, leb, le→leb, lt→ltb, leb→le, ltb→lt, eqb→eq}
 use lib.Pow.{areBytes}
-use Rattle.laws.specs.Lists.{flat, same}
+use Rattle.laws.specs.Lists.{same}
 use Rattle.field.specs.Bytes.{u8At, u16At}
-use Rattle.paper.specs.Outcome.{Outcome, accepted, must, get, _>>=_, _>>_}
-use Rattle.paper.specs.Image.{Row, Set, noRow, rowBytes, partBytes, imageOf, walkParts, rowAt}
-use Rattle.paper.specs.Sound.{maxImage, fieldsFit, ordered, boundaryStands, copiesAgree, residesWell, ownedWell, rowsMust, soundOf}
+use Rattle.paper.specs.Outcome.{accepted, get}
+use Rattle.paper.specs.Image.{Set, imageOf, walkParts, rowAt}
+use Rattle.paper.specs.Sound.{maxImage, fieldsFit, ordered, boundaryStands, copiesAgree, residesWell, ownedWell, soundOf}
 use Rattle.laws.proofs.Tests.{split3, join3}
 use Rattle.paper.proofs.Outcomes.{then-inv, bind-inv, must-inv, accepted-inj}
-use Rattle.paper.proofs.RowBack.{RowFits}
-use Rattle.demands.proofs.Rows.Faults.{rows-inv, rows-ok, must-ok, get-inv, then-ok, bind-ok}
-use Rattle.paper.proofs.Codec.{Wide, Walk, parts-walk, parts-back, same-eq, head-is}
+use Rattle.demands.proofs.Rows.Faults.{rows-inv, rows-ok}
+use Rattle.demands.proofs.Rows.Outcomes.{must-ok, get-inv, then-ok, bind-ok}
+use Rattle.paper.proofs.Codec.{Wide, Walk, parts-walk, parts-back, head-is}
+use Rattle.laws.proofs.Same.{same-eq}
+use Rattle.field.proofs.Reading.{bytes-drop}
 
 -- a test of each row of a set
 abbrev pub Each : Set → (ℕ → ℕ → Type 0) → Type 0
@@ -58,7 +60,7 @@ sound-inv b S y e =
     let R = s₆ .0 in
     let is : R ≡ S = accepted-inj (s₁₂ .2) in
     let t₅ = split3 (ltb 0 (u8At b 5)) (leb (u8At b 5) 64) (eqb (u16At b 6) 0) (must-inv 5 (ltb 0 (u8At b 5) && leb (u8At b 5) 64 && eqb (u16At b 6) 0) (s₅ .0) (s₅ .1)) in
-    let w : Walk (u8At b 5) (drop 8 b) R = parts-walk (u8At b 5) (drop 8 b) R (Rattle.paper.proofs.RowForth.bytes-drop 8 b y) (get-inv 6 (walkParts (u8At b 5) (drop 8 b)) R (s₆ .1)) in
+    let w : Walk (u8At b 5) (drop 8 b) R = parts-walk (u8At b 5) (drop 8 b) R (bytes-drop 8 b y) (get-inv 6 (walkParts (u8At b 5) (drop 8 b)) R (s₆ .1)) in
     let head : b ≡ 68 ∷ 77 ∷ 80 ∷ 1 ∷ 0 ∷ u8At b 5 ∷ 0 ∷ 0 ∷ drop 8 b =
     head-is b y (leb→le 8 (length b) (must-inv 2 (leb 8 (length b)) (s₂ .0) (s₂ .1))) (same-eq (take 3 b) (68 ∷ 77 ∷ 80 ∷ []) (must-inv 3 (same (take 3 b) (68 ∷ 77 ∷ 80 ∷ [])) (s₃ .0) (s₃ .1)))
     (eqb→eq (u16At b 3) 1 (must-inv 4 (eqb (u16At b 3) 1) (s₄ .0) (s₄ .1))) (eqb→eq (u16At b 6) 0 (t₅ .2)) in

@@ -1,25 +1,26 @@
 -- A list that is run again moves nothing and gives the same bytes, and so does an empty list.
 -- Assumes nothing.
-use Prim.Native.Nat.{ℕ, zero, suc, _+_, _≤_}
-use native.Mathlib.Omega.{arith}
+use Prim.Native.Nat.{ℕ, _+_}
 use mathlib.Core.Path.{_≡_, refl, sym, ap, ap₂, _∙_, subst, fun-ext}
-use mathlib.Core.Bool.{Bool, true, cond}
-use mathlib.Core.List.{List, [], _∷_, map}
+use mathlib.Core.Bool.{Bool, cond}
+use mathlib.Core.List.{List, [], _∷_}
 use mathlib.Core.Option.{Option, none, some, Option·getD}
 use lib.ListN.{length}
 use lib.Dec.{T, eqb, eqb-refl}
 use lib.Pow.{areBytes}
 use Rattle.laws.specs.Lists.{upTo, from, firstBad}
-use Rattle.paper.specs.Outcome.{Outcome, accepted}
-use Rattle.paper.specs.Image.{Set, imageOf, rowTotal}
-use Rattle.paper.specs.Mesh.{Entity, Parts, name, partsOf}
-use Rattle.paper.specs.Placement.{Placement, objects, spread, rowsFor, placesOf, imageFor}
-use Rattle.paper.specs.Move.{destOf, moved, changes, Migrated, migrated, migrateSet, migrateOf}
-use Rattle.laws.proofs.Members.{T-true}
+use Rattle.paper.specs.Outcome.{accepted}
+use Rattle.paper.specs.Image.{Set, imageOf}
+use Rattle.paper.specs.Mesh.{Entity, Parts}
+use Rattle.paper.specs.Placement.{Placement, objects, rowsFor, placesOf, imageFor}
+use Rattle.paper.specs.Move.{destOf, moved, changes, Migrated, migrated, migrateOf}
+use Rattle.laws.proofs.Tests.{T-true}
 use Rattle.demands.proofs.Mesh.Places.{spread-same}
-use Rattle.demands.proofs.Theorems.Statements.{Accepts, mesh, places, Canonical}
+use Rattle.demands.proofs.Theorems.Statements.{Accepts, mesh, places}
 use Rattle.demands.proofs.Theorems.T1.{theorem-1}
-use Rattle.demands.proofs.Theorems.Moves.{Now, begin, Went, went, moves-at, migrate-is, moved-same}
+use Rattle.demands.proofs.Theorems.Now.{Now, begin, moves-at}
+use Rattle.demands.proofs.Theorems.Went.{went, migrate-is}
+use Rattle.demands.proofs.Theorems.Destinations.{moved-same}
 
 changes-none : (xs : List ℕ) → changes xs xs ≡ 0
 unfolding changes

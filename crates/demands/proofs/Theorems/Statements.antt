@@ -7,10 +7,10 @@ use mathlib.Core.List.{List, [], map}
 use lib.ListN.{length, getD}
 use lib.Dec.{T}
 use lib.Pow.{areBytes}
-use Rattle.laws.specs.Lists.{ascending}
+use Rattle.laws.specs.Lists.{In, ascending}
 use Rattle.paper.specs.Outcome.{accepted}
 use Rattle.paper.specs.Image.{Set, imageOf}
-use Rattle.paper.specs.Mesh.{Entity, name, partsOf, meshOf}
+use Rattle.paper.specs.Mesh.{Entity, Parts, name, partsOf, meshOf}
 use Rattle.paper.specs.Sound.{soundOf, maxImage}
 use Rattle.paper.specs.Placement.{Placement, spread, rowsFor, placeIn, placesOf, imageFor, WellPlaced}
 
@@ -22,6 +22,14 @@ mesh S = meshOf (partsOf S)
 
 abbrev pub places : Set → Placement
 places S = placeIn (partsOf S)
+
+-- e is in part p, and in no other
+abbrev pub OnlyIn : Parts → ℕ → Entity → Type 0
+OnlyIn ps p e = In e (getD ps p []) × ((q : ℕ) → In e (getD ps q []) → q ≡ p)
+
+-- one exactly where the other
+abbrev pub Iff : Type 0 → Type 0 → Type 0
+Iff A B = (A → B) × (B → A)
 
 -- T1: what an accepted image is
 pub record Canonical (b : List ℕ) (S : Set) : Type 0 where

@@ -1,18 +1,14 @@
 -- T1: an accepted image is the canonical image of its mesh and placement, and these fit.
 -- Assumes nothing.
 use Prim.Native.Nat.{ℕ}
-use mathlib.Core.Path.{_≡_, refl, sym, ap, _∙_, subst}
-use mathlib.Core.List.{List}
-use lib.ListN.{length}
-use lib.Dec.{T}
-use lib.Pow.{areBytes}
-use Rattle.paper.specs.Image.{Set, imageOf}
-use Rattle.paper.specs.Mesh.{Entity, Parts, partsOf, meshOf}
-use Rattle.paper.specs.Placement.{spread, rowsFor, placeIn, WellPlaced}
-use Rattle.demands.proofs.Theorems.Statements.{T1, Canonical, Accepts, mesh, places}
+use mathlib.Core.Path.{ap, _∙_, subst}
+use Rattle.paper.specs.Image.{imageOf}
+use Rattle.paper.specs.Mesh.{partsOf}
+use Rattle.paper.specs.Placement.{spread, WellPlaced}
+use Rattle.demands.proofs.Theorems.Statements.{T1, mesh, places}
 use Rattle.demands.proofs.Fit.Record.{Fit}
 use Rattle.demands.proofs.Fit.ToMesh.{is-spread, well-placed}
-use Rattle.demands.proofs.Sound.Facts.{Sound, sound-inv}
+use Rattle.demands.proofs.Sound.Facts.{sound-inv}
 use Rattle.demands.proofs.Sound.Rows.{parts-count, names-ascend}
 use Rattle.demands.proofs.Sound.ToFit.{sound-fit}
 use Rattle.demands.proofs.Sound.Canonical.{sound-canon}
