@@ -14,7 +14,6 @@ use Rattle.field.specs.Bytes.{words, longs, bytesOf, finite}
 use Rattle.part_set.specs.Masks.{has, maskOf}
 use Rattle.paper.specs.Image.{Row, Set, noRow}
 use Rattle.paper.specs.Mesh.{Entity, Parts, nameOf, name, noEnt, shapeOf, slotsOf, entOf, partsOf, holds, slotIn}
-
 use Rattle.paper.specs.Placement.{residenceIn, bodyIn, rowFor, rowsFor, shapeFits}
 use Rattle.laws.proofs.Tests.{split2, both}
 use Rattle.laws.proofs.Members.{map-of-map, map-self, decide, map-same, getD-map, getD-in, in-getD, every-in, in-every, part-lt}
