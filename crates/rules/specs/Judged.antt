@@ -27,3 +27,17 @@ Passed rule S = (p s : ℕ) → s < length (getD S p []) → T (judged rule S p 
 -- the rows of part p before slot s pass
 abbrev pub PassedBefore : Rule → Set → ℕ → ℕ → Type 0
 PassedBefore rule S p s = (t : ℕ) → t < s → T (judged rule S p t)
+
+-- the number of the refusal that a fault under the rule is
+abbrev pub refusalOf : Rule → ℕ
+refusalOf Fields = 7
+refusalOf Order = 8
+refusalOf Boundary = 9
+refusalOf Twins = 10
+refusalOf Copies = 10
+refusalOf Residence = 11
+refusalOf Owner = 12
+
+-- every row passes the rules of the refusals below k
+abbrev pub PassedBelow : ℕ → Set → Type 0
+PassedBelow k S = (rule : Rule) → refusalOf rule < k → Passed rule S

@@ -15,7 +15,6 @@ pub fn order(keys: &[u64], starts: &[u32], part: Part, slot: Slot) -> bool
     if slot.0 == 0 {
         return true;
     }
-    let p = part.0 as usize;
-    let at = starts[p] as usize + slot.0 as usize;
-    keys[at - 1] < keys[at]
+    let row = crate::rows::row_of(starts, part, slot);
+    keys[row - 1] < keys[row]
 }

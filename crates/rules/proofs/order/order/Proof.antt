@@ -3,30 +3,13 @@ use borrow.Author.Tests.{eq-eqb, ne-eqb}
 use Rattle.rules.specs.Tables.{keyAscends}
 use Rattle.rules.proofs.order.order.Statement.{statement}
 use Rattle.rules.proofs.order.order.Tie as tie
-use Rattle.rules.proofs.order.order.Reads as reads
-use Rattle.rules.proofs.order.order.Lts as lts
 
 returns : tie.Need-returns
 unfolding keyAscends
 returns c = simp (eq-eqb _ _ (c .if1 .taken))
 
-cast-p : tie.Need-cast-p
-cast-p c = search needs
-
-mul-at : tie.Need-mul-at
-mul-at c = search needs
-
-shared-slice-read-at : tie.Need-shared-slice-read-at
-shared-slice-read-at c = search needs
-
-cast-at : tie.Need-cast-at
-cast-at c = search needs
-
-cast-at-2 : tie.Need-cast-at-2
-cast-at-2 c = search needs
-
-add-at : tie.Need-add-at
-add-at c = search needs
+row-of-requires : tie.Need-row-of-requires
+row-of-requires c κs = search needs
 
 sub-result : tie.Need-sub-result
 sub-result c = search needs
@@ -45,19 +28,14 @@ shared-slice-read-result-2 c = search needs
 
 returns-2 : tie.Need-returns-2
 unfolding keyAscends
-returns-2 c = simp (ne-eqb _ _ (c .before .before .before .before .before .if1 .left))
+returns-2 c = simp (ne-eqb _ _ (c .before .before .before .if1 .left)) (cc)
 
 pub order-spec : {M : Type 1} → statement M
 order-spec =
     tie.close
     (tie.spec
     returns
-    cast-p
-    mul-at
-    shared-slice-read-at
-    cast-at
-    cast-at-2
-    add-at
+    row-of-requires
     sub-result
     mul-result
     shared-slice-read-result
