@@ -6,3 +6,4 @@ pub mod Fit
 pub mod Mesh
 pub mod Theorems
 pub mod ForCode
+pub mod Results

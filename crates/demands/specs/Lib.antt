@@ -1,1 +1,5 @@
 pub mod History
+pub mod Reverse
+pub mod Meshes
+pub mod Programs
+pub mod WrongPrograms

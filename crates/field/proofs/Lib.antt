@@ -1,1 +1,4 @@
 pub mod Numbers
+pub mod Reading
+pub mod Finite
+pub mod Stores

@@ -1,10 +1,10 @@
 -- Numbers to bytes and back.
 -- Assumes nothing.
-use Prim.Native.Nat.{ℕ, zero, suc, _/_, _^_, _<_}
+use Prim.Native.Nat.{ℕ, zero, suc, _*_, _/_, _^_, _<_}
 use native.Mathlib.Omega.{arith}
 use mathlib.Core.Path.{_≡_, refl, ap, ap₂, _∙_}
 use mathlib.Core.List.{List, [], _∷_, _++_, map, append-assoc}
-use lib.ListN.{length, drop}
+use lib.ListN.{length, drop, length-append}
 use lib.Seq.{drop-at}
 use lib.Dec.{T, ltb, ltb→lt}
 use Rattle.laws.specs.Lists.{flat, every}
@@ -36,3 +36,8 @@ words-back (w ∷ ws) rest h =
     (ap (λ (b : List ℕ). u32At b 0) (append-assoc (bytesOf 4 w) tail rest) ∙ u32-back w (tail ++ rest) (ltb→lt w (2 ^ 32) (and-l small others h)))
     (ap (λ (b : List ℕ). words (length ws) b) (ap (drop 4) (append-assoc (bytesOf 4 w) tail rest) ∙ drop-at (bytesOf 4 w) (tail ++ rest) 4 (length-bytes 4 w))
     ∙ words-back ws rest (and-r small others h))
+
+pub length-written : (ws : List ℕ) → length (flat (map (bytesOf 4) ws)) ≡ 4 * length ws
+unfolding flat
+length-written [] = refl
+length-written (w ∷ ws) = omega (arith, length-append (bytesOf 4 w) (flat (map (bytesOf 4) ws)), length-bytes 4 w, length-written ws)

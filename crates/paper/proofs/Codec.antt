@@ -1,51 +1,29 @@
--- A whole image: what the walk reads is written to the same bytes, and what is written is read back.
--- Assumes nothing.
-use Prim.Native.Nat.{ℕ, zero, suc, _+_, _*_, _/_, _%_, _^_, _<_, _≤_, suc-le-suc}
-use native.Mathlib.Nat.{zero-lt-suc}
+-- The parts of an image and its head: what the walk reads is written to the same bytes, and what is written is read back.
+-- proofs/ImageCodec.antt puts them together. Assumes nothing.
+use Prim.Native.Nat.{ℕ, zero, suc, _^_, _<_, _≤_}
 use native.Mathlib.Omega.{arith}
 use mathlib.Core.Path.{_≡_, refl, sym, ap, ap₂, _∙_, subst}
-use mathlib.Core.Bool.{Bool, true, false}
-use mathlib.Core.Logic.{_⊎_, inl, inr}
 use mathlib.Core.List.{List, [], _∷_, _++_, map, append-assoc}
 use mathlib.Core.Option.{Option, none, some, Option·some-injective, Option·some-ne-none}
 use lib.ListN.{length, getD, take, drop, length-append, length-take, length-drop}
 use lib.Seq.{drop-cons, drop-at}
-use lib.Dec.{T, eqb, ltb, leb, le→leb, lt→ltb, leb→le, eqb→eq}
+use lib.Dec.{T, eqb, leb, le→leb, leb→le, eqb→eq}
 use lib.Pow.{areBytes}
-use Rattle.laws.specs.Lists.{In, every, flat, need, same}
-use Rattle.field.specs.Bytes.{u8At, u16At, u32At, u64At, words, bytesOf}
-use Rattle.paper.specs.Image.{Row, Set, noRow, remotes, rowLength, rowIn, consRow, consPart, walked, walkRows, walkParts, rowBytes, partBytes, imageOf}
+use Rattle.laws.specs.Lists.{flat, same}
 use Rattle.laws.proofs.Tests.{and-l, and-r, both}
+use Rattle.field.specs.Bytes.{u8At, u16At, u32At, u64At, bytesOf}
 use Rattle.field.proofs.Numbers.{u32-back, length-bytes}
+use Rattle.field.proofs.Reading.{bytes-drop, bytes-take, byte-lt, u32-lt, u32-forth, words-small}
+pub use Rattle.field.proofs.Reading.{u64-lt, length-words}
+use Rattle.paper.specs.Image.{Row, Set, noRow, remotes, rowLength, rowIn, consRow, consPart, walked, walkRows, walkParts, rowBytes, partBytes}
 use Rattle.paper.proofs.RowBack.{RowFits, rows-back, need-true}
-use Rattle.paper.proofs.RowForth.{bytes-drop, byte-lt, u32-lt, u32-drop, u32-forth, need-inv, rows-forth}
+use Rattle.paper.proofs.RowForth.{need-inv, rows-forth}
 
 -- ---- what is read has the widths of its fields
 
 pub record Wide (r : Row) : Type 0 where
   pub row : RowFits r
   pub body : T (areBytes (r .body))
-
-pub bytes-take : (i : ℕ) (b : List ℕ) → T (areBytes b) → T (areBytes (take i b))
-bytes-take zero b y = tt
-bytes-take (suc i) [] y = y
-bytes-take (suc i) (x ∷ b) y = both (ltb x 256) (areBytes (take i b)) (and-l (ltb x 256) (areBytes b) y) (bytes-take i b (and-r (ltb x 256) (areBytes b) y))
-
-pub length-words : (k : ℕ) (b : List ℕ) → length (words k b) ≡ k
-unfolding words
-length-words zero b = refl
-length-words (suc k) b = ap suc (length-words k (drop 4 b))
-
-pub words-small : (k : ℕ) (b : List ℕ) → T (areBytes b) → T (every (λ w. ltb w (2 ^ 32)) (words k b))
-unfolding words every
-words-small zero b y = tt
-words-small (suc k) b y =
-    both (ltb (u32At b 0) (2 ^ 32)) (every (λ w. ltb w (2 ^ 32)) (words k (drop 4 b))) (lt→ltb (u32At b 0) (2 ^ 32) (u32-lt b y))
-    (words-small k (drop 4 b) (bytes-drop 4 b y))
-
-pub u64-lt : (b : List ℕ) (i : ℕ) → T (areBytes b) → u64At b i < 2 ^ 64
-u64-lt b i y =
-    omega (arith, byte-lt b i y, byte-lt b (i + 1) y, byte-lt b (i + 2) y, byte-lt b (i + 2 + 1) y, byte-lt b (i + 4) y, byte-lt b (i + 4 + 1) y, byte-lt b (i + 4 + 2) y, byte-lt b (i + 4 + 2 + 1) y)
 
 row-wide : (b : List ℕ) → T (areBytes b) → rowLength (u64At b 8) ≤ length b → Wide (rowIn b)
 unfolding rowLength rowIn

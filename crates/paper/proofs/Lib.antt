@@ -3,4 +3,14 @@ pub mod Remotes
 pub mod RowBack
 pub mod RowForth
 pub mod Codec
+pub mod ImageCodec
+pub mod Meshes
+pub mod Table
 pub mod Cases
+pub mod MoreCases
+pub mod Limits
+pub mod Injective
+pub mod NameOrder
+pub mod OwnMeshes
+pub mod OwnCases
+pub mod OwnMoves

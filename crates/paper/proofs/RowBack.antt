@@ -1,6 +1,6 @@
 -- A row, the rows of a part and a set are read back from their bytes.
 -- Assumes nothing.
-use Prim.Native.Nat.{ℕ, suc, _*_, _^_, _<_, suc-le-suc}
+use Prim.Native.Nat.{ℕ, suc, _^_, _<_, suc-le-suc}
 use native.Mathlib.Nat.{zero-lt-suc}
 use native.Mathlib.Omega.{arith}
 use mathlib.Core.Path.{_≡_, refl, sym, ap, ap₂, _∙_}
@@ -13,7 +13,7 @@ use lib.Dec.{T, ltb, leb, le→leb}
 use Rattle.laws.specs.Lists.{flat, every, need}
 use Rattle.field.specs.Bytes.{u8At, u32At, u64At, words, bytesOf}
 use Rattle.paper.specs.Image.{Row, noRow, remotes, rowLength, rowIn, consRow, walkRows, rowBytes}
-use Rattle.field.proofs.Numbers.{words-back, length-bytes}
+use Rattle.field.proofs.Numbers.{words-back, length-written}
 
 -- the row's numbers have the widths of their fields
 pub record RowFits (r : Row) : Type 0 where
@@ -76,14 +76,9 @@ row-back r rest f = λ i.
       slots = slots-back r rest f i;
     }
 
-length-words : (ws : List ℕ) → length (flat (map (bytesOf 4) ws)) ≡ 4 * length ws
-unfolding flat
-length-words [] = refl
-length-words (w ∷ ws) = omega (arith, length-append (bytesOf 4 w) (flat (map (bytesOf 4) ws)), length-bytes 4 w, length-words ws)
-
 pub length-row : (r : Row) → RowFits r → length (rowBytes r) ≡ rowLength (r .mask)
 unfolding rowBytes rowLength bytesOf
-length-row r f = omega (arith, length-append (r .body) (flat (map (bytesOf 4) (r .slots))), length-words (r .slots), f .body, f .slots)
+length-row r f = omega (arith, length-append (r .body) (flat (map (bytesOf 4) (r .slots))), length-written (r .slots), f .body, f .slots)
 
 -- ---- the rows of a part
 

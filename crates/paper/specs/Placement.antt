@@ -8,10 +8,10 @@ use lib.ListN.{length, getD, replicate}
 use lib.Dec.{T, leb, ltb, eqb}
 use Rattle.paper.specs.Mesh
 use Rattle.laws.specs.Lists.{every, keep, flat, ascending, upTo, member}
-use Rattle.field.specs.Bytes.{bytesOf}
+use Rattle.field.specs.Bytes.{bytesOf, finite}
 use Rattle.part_set.specs.Masks.{partsIn, others, maskOf}
 use Rattle.paper.specs.Image.{Row, Set, imageOf}
-use Rattle.paper.specs.Sound.{finite, valueFits}
+use Rattle.paper.specs.Sound.{valueFits}
 use Rattle.paper.specs.Mesh.{Entity, Parts, nameOf, name, closure, simplex, isObject, holds, slotIn, ownerOf}
 
 -- where each object is: its part, by its name

@@ -9,17 +9,13 @@ use lib.Dec.{leb, ltb, eqb}
 use Rattle.paper.specs.Outcome
 use Rattle.paper.specs.Mesh
 use Rattle.laws.specs.Lists.{every, some?, keep, flat, pairwise, upTo, member, indexOf, same, firstBad}
-use Rattle.field.specs.Bytes.{u8At, u16At, longs}
+use Rattle.field.specs.Bytes.{u8At, u16At, longs, finite}
 use Rattle.part_set.specs.Masks.{has, others, count, partsIn, maskOf}
 use Rattle.paper.specs.Outcome.{Outcome, Place, accepted, _>>=_, _>>_, must, unless, get}
 use Rattle.paper.specs.Image.{Row, Set, noRow, walkParts, rowAt, rowTotal}
 use Rattle.paper.specs.Mesh.{nameOf, sameEnt, slotsOf, shapeOf, entOf, partsOf, bounds, simplex, ownerOf}
 
 -- ---- 7: the fields
-
--- a finite f64: its exponent's field is not all ones
-abbrev pub finite : ℕ → Bool
-finite x = not (eqb (x / 2 ^ 52 % 2 ^ 11) 2047)
 
 -- kind 0 with eight zero bytes, kind 1 with any 64-bit number, kind 2 with the bits of a finite f64; other kinds are refused beside this
 unfoldable pub valueFits : ℕ → ℕ → Bool

@@ -10,11 +10,11 @@ use lib.Seq.{drop-at}
 use lib.Pow.{areBytes, pow-mono}
 use lib.Dec.{T, eqb, ltb, leb, lt→ltb, le→leb}
 use Rattle.laws.specs.Lists.{In, flat, every}
-use Rattle.field.specs.Bytes.{bytesOf}
+use Rattle.field.specs.Bytes.{bytesOf, finite}
 use Rattle.part_set.specs.Masks.{has, partsIn, others}
 use Rattle.paper.specs.Image.{rowBytes}
 use Rattle.paper.specs.Mesh.{Entity, Parts, nameOf, name, slotIn, ownerOf}
-use Rattle.paper.specs.Sound.{finite, valueFits, bodyFits, fieldsFit}
+use Rattle.paper.specs.Sound.{valueFits, bodyFits, fieldsFit}
 use Rattle.paper.specs.Placement.{residenceIn, bodyIn, rowFor}
 use Rattle.laws.proofs.Tests.{both, join8}
 use Rattle.laws.proofs.Members.{in-every, map-in, part-lt}

@@ -9,11 +9,10 @@ use lib.ListN.{length, getD, length-map}
 use lib.Seq.{ext-getD}
 use lib.Dec.{T, eqb, ltb, ltb→lt, lt→ltb, eqb→eq, lit<}
 use Rattle.laws.specs.Lists.{In, flat, every}
-use Rattle.field.specs.Bytes.{longs, bytesOf}
+use Rattle.field.specs.Bytes.{longs, bytesOf, finite}
 use Rattle.part_set.specs.Masks.{has}
 use Rattle.paper.specs.Image.{Row, noRow}
 use Rattle.paper.specs.Mesh.{Entity, Parts, nameOf, name, noEnt, shapeOf, entOf, partsOf, holds}
-use Rattle.paper.specs.Sound.{finite}
 use Rattle.paper.specs.Placement.{residenceIn, bodyIn, rowFor, rowsFor, shapeFits}
 use Rattle.laws.proofs.Tests.{split2, both, decide}
 use Rattle.laws.proofs.Agree.{map-of-map, map-self, getD-map}

@@ -9,9 +9,9 @@ use lib.Dec.{T, eqb}
 use lib.Pow.{areBytes}
 use Rattle.laws.specs.Lists.{every, flat}
 use Rattle.field.specs.Bytes.{words, longs, bytesOf}
-use Rattle.paper.proofs.RowForth.{words-forth}
 use Rattle.laws.proofs.Zeros.{zeros}
 use Rattle.demands.proofs.Rows.Bytes.{longs-forth}
+use Rattle.field.proofs.Reading.{words-forth}
 
 -- ---- a vertex
 

@@ -14,8 +14,7 @@ use Rattle.laws.specs.Lists.{In, every, flat}
 use Rattle.field.specs.Bytes.{u64At, longs, bytesOf}
 use Rattle.laws.proofs.Tests.{and-l, and-r, both}
 use Rattle.field.proofs.Numbers.{u64-back, length-bytes}
-use Rattle.paper.proofs.RowForth.{bytes-drop, u64-forth}
-use Rattle.paper.proofs.Codec.{u64-lt}
+use Rattle.field.proofs.Reading.{bytes-drop, u64-forth, u64-lt}
 
 -- ---- lists of bytes
 

@@ -20,7 +20,7 @@ use Rattle.demands.proofs.Rows.Faults.{rows-inv, rows-ok}
 use Rattle.demands.proofs.Rows.Outcomes.{must-ok, get-inv, then-ok, bind-ok}
 use Rattle.paper.proofs.Codec.{Wide, Walk, parts-walk, parts-back, head-is}
 use Rattle.laws.proofs.Same.{same-eq}
-use Rattle.paper.proofs.RowForth.{bytes-drop}
+use Rattle.field.proofs.Reading.{bytes-drop}
 
 -- a test of each row of a set
 abbrev pub Each : Set → (ℕ → ℕ → Type 0) → Type 0

@@ -9,11 +9,11 @@ use mathlib.Core.List.{List, [], map}
 use lib.ListN.{length, getD, length-map}
 use lib.Dec.{T, eqb, ltb}
 use Rattle.laws.specs.Lists.{In, every, some?, flat}
-use Rattle.field.specs.Bytes.{words, longs}
+use Rattle.field.specs.Bytes.{words, longs, finite}
 use Rattle.part_set.specs.Masks.{has, partsIn, count}
 use Rattle.paper.specs.Image.{Row, Set, noRow, rowAt}
 use Rattle.paper.specs.Mesh.{Entity, nameOf, name, bounds, isObject, slotsOf, shapeOf, entOf, partsOf, holds, simplex}
-use Rattle.paper.specs.Sound.{finite, bodyFits, slotsStand, boundaryStands, rowsAbove, residence, residesWell}
+use Rattle.paper.specs.Sound.{bodyFits, slotsStand, boundaryStands, rowsAbove, residence, residesWell}
 use Rattle.paper.specs.Placement.{shapeFits}
 use Rattle.laws.proofs.Tests.{split2, both, eq-eqb}
 use Rattle.laws.proofs.Members.{map-in, every-in, in-every, some-in, in-flat, flat-in, part-lt}
@@ -21,7 +21,6 @@ use Rattle.demands.proofs.Entities.Names.{in-holds, not-object, object-
 use Rattle.part_set.proofs.MaskBits.{has-maskOf}
 use Rattle.laws.proofs.Ascending.{asc-map, asc-getD, only-one}
 use Rattle.part_set.proofs.MaskParts.{has-lt, in-partsIn}
-use Rattle.paper.proofs.Codec.{length-words}
 use Rattle.demands.proofs.Rows.Bytes.{length-longs, longs-small}
 use Rattle.demands.proofs.Entities.Fits.{EntOk, of-faces}
 use Rattle.demands.proofs.Fit.Record.{Fit}
@@ -29,6 +28,7 @@ use Rattle.demands.proofs.Sound.Facts.{Copied, Sound, Each}
 use Rattle.demands.proofs.Sound.Rows.{ent, parts-at, parts-count, part-in, in-part, name-at, names-count, row-fields, row-wide, number-lt, names-ascend, held-has, has-in, agree, row}
 use Rattle.demands.proofs.Sound.Slots.{SlotsOk, slots-of}
 use Rattle.demands.proofs.Sound.Above.{above-in, in-above, res-some, res-none}
+use Rattle.field.proofs.Reading.{length-words}
 
 module _ (S : Set) (f : Copied S) where
   pub row-slots : (p s d : ℕ) → s < length (getD S p []) → row S p s .dim ≡ suc d

@@ -1,0 +1,15 @@
+-- What follows from the demands and is asked of a migrator: woken twice, empty lists, lists taken back, one answer only, wrong programs.
+pub mod Entries
+pub mod Accepted
+pub mod Changes
+pub mod Lands
+pub mod Again
+pub mod Empty
+pub mod ReverseList
+pub mod Reverse
+pub mod Nothing
+pub mod EmptyPart
+pub mod OneToOne
+pub mod Unique
+pub mod Programs
+pub mod WrongPrograms

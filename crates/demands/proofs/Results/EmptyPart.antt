@@ -1,0 +1,28 @@
+-- A part becomes empty and fills again, computed: the two triangles of B come together in part 1 and part again.
+-- Assumes nothing.
+use mathlib.Core.Path.{_≡_, refl}
+use mathlib.Core.List.{List, []}
+use lib.ListN.{length, getD}
+use Rattle.paper.specs.Outcome.{Outcome, refused, accepted}
+use Rattle.paper.specs.Mesh.{Parts, partsOf}
+use Rattle.paper.specs.Placement.{placeIn}
+use Rattle.paper.specs.Sound.{soundOf}
+use Rattle.paper.specs.Move
+use Rattle.paper.specs.Move.{migrateOf}
+use Rattle.demands.specs.Reverse
+use Rattle.demands.specs.Reverse.{reverseOf}
+use Rattle.demands.specs.Meshes.{B, A-in-1, partsB, send}
+
+-- triangle 1 of B to part 1: part 0 becomes empty
+pub part-empties : migrateOf B (send 2 1 1) 544 14 ≡ accepted (record { image = A-in-1; rows = 11; objectsMoved = 1 })
+unfolding Move.computes
+part-empties = refl
+
+-- and back to part 0, by the reverse list: B again
+pub list-turned : reverseOf (placeIn partsB) (send 2 1 1) ≡ send 2 1 0
+unfolding Move.computes Reverse.computes
+list-turned = refl
+
+pub part-fills : migrateOf A-in-1 (send 2 1 0) 712 11 ≡ accepted (record { image = B; rows = 14; objectsMoved = 1 })
+unfolding Move.computes
+part-fills = refl

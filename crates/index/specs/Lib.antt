@@ -1,0 +1,4 @@
+pub mod Index
+pub mod Head
+pub mod Places
+pub mod Walk

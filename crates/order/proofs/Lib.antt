@@ -1,0 +1,5 @@
+pub mod Lists
+pub mod Merging
+pub mod Pairing
+pub mod Steps
+pub mod Bounds
