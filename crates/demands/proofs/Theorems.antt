@@ -11,5 +11,4 @@ pub mod Histories
 pub mod Sentences
 pub mod Demand2
 pub mod Demand3
-pub mod Moves
 pub mod Again

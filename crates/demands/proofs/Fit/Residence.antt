@@ -30,11 +30,11 @@ use Rattle.demands.proofs.Entities.Closed.{closed-down}
 module _ (ps : Parts) (F : Fit ps) (few : (p : ℕ) → length (getD ps p []) < 2 ^ 32) where
   -- a row above k is that of an entity with k on its boundary
   record Above (k : ℕ) (a : Row) : Type 0 where
-    pub part : ℕ
-    pub above : Entity
-    pub there : In above (getD ps part [])
-    pub bounded : T (bounds k above)
-    pub mask : a .mask ≡ residenceIn ps (name above)
+    part : ℕ
+    above : Entity
+    there : In above (getD ps part [])
+    bounded : T (bounds k above)
+    mask : a .mask ≡ residenceIn ps (name above)
 
   mask-at : (q t : ℕ) → t < length (getD ps q []) → row (rowsFor ps) q t .mask ≡ residenceIn ps (name (getD (getD ps q []) t noEnt))
   unfolding rowFor

@@ -9,7 +9,7 @@ use mathlib.Core.List.{List, []}
 use lib.ListN.{length, getD}
 use lib.Dec.{T}
 use lib.Pow.{areBytes}
-use Rattle.laws.specs.Lists.{In}
+use Rattle.laws.specs.Lists.{In, flat}
 use Rattle.part_set.specs.Masks.{others, partsIn}
 use Rattle.paper.specs.Outcome.{accepted}
 use Rattle.paper.specs.Image.{Set, rowAt, rowTotal}
@@ -17,8 +17,12 @@ use Rattle.paper.specs.Mesh.{Entity, name, isObject, ownerOf, partsOf}
 use Rattle.paper.specs.Sound.{nameOfRow, residesWell}
 use Rattle.paper.specs.Placement.{spread, rowsFor, residenceIn, placesOf, imageFor}
 use Rattle.paper.specs.Move.{entryName, entryPart, allEntries, moved, changes, Migrated, migrated, migrateOf}
+use Rattle.laws.proofs.Members.{flat-in}
+use Rattle.demands.proofs.Entities.Names.{holds-in}
 use Rattle.demands.proofs.Entities.Owners.{Poorest}
 use Rattle.demands.proofs.Mesh.Spread.{Under}
+use Rattle.demands.proofs.Fit.Record.{Fit}
+use Rattle.demands.proofs.Fit.ToMesh.{in-mesh, mesh-object}
 use Rattle.demands.proofs.Sound.Facts.{Each}
 use Rattle.demands.proofs.Sound.Rows.{Twin}
 use Rattle.demands.proofs.Theorems.Statements.{Accepts, mesh, places, OnlyIn, Iff}
@@ -63,6 +67,16 @@ module _ (b : List ℕ) (S : Set) (l : List ℕ) (out work : ℕ) (m : Migrated)
     listed-object o i j t h is =
         subst (λ (p : ℕ). OnlyIn (partsOf S′) p o) (moved-listed l (taken .entries) (places S) (name o) i h is)
         (Sentences.object-only (length S) (mesh S) (moved l (places S)) (m .image) now S′ a′ o j t)
+
+    -- and every entry names an object, which is there
+    pub entry-lands : (i : ℕ) → i < allEntries l → (o : Entity) × In o (mesh S) × T (isObject (mesh S) (name o)) × (entryName l i ≡ name o) × OnlyIn (partsOf S′) (entryPart l i) o
+    entry-lands i h =
+        let F : Fit (partsOf S) = Sentences.is-fit b S y a in
+        let w = holds-in (flat (partsOf S)) (entryName l i) (taken .there i h) in
+        let v = flat-in (partsOf S) (w .0) (w .1) in
+        let j : In (w .0) (mesh S) = in-mesh (partsOf S) F (v .0) (w .0) (v .2) in
+        let t : T (isObject (mesh S) (name (w .0))) = subst T (mesh-object (partsOf S) F (name (w .0))) (subst (λ (k : ℕ). T (isObject (flat (partsOf S)) k)) (w .2) (taken .objects i h)) in
+        (w .0, j, t, w .2, listed-object (w .0) i j t h (w .2))
 
     -- "or stays": it is in the part where it was and in no other
     pub unlisted-object : (o : Entity) (p : ℕ) → In o (mesh S) → T (isObject (mesh S) (name o)) → ((i : ℕ) → i < allEntries l → entryName l i ≡ name o → ⊥)

@@ -36,7 +36,7 @@ module _ (b : List ℕ) (S : Set) (y : T (areBytes b)) (a : Accepts b S) where
   is-sound : Sound S
   is-sound = sound-inv b S y a .0
 
-  is-fit : Fit (partsOf S)
+  pub is-fit : Fit (partsOf S)
   is-fit = sound-fit S is-sound
 
   -- order, slots, residence sets and owners follow from the entities of each part
