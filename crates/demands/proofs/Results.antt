@@ -8,8 +8,8 @@ pub mod Empty
 pub mod ReverseList
 pub mod Reverse
 pub mod Nothing
+pub mod Examples
 pub mod EmptyPart
-pub mod OneToOne
 pub mod Unique
 pub mod Programs
 pub mod WrongPrograms
