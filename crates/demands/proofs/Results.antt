@@ -1,5 +1,4 @@
 -- What follows from the demands and is asked of a migrator: woken twice, empty lists, lists taken back, one answer only, wrong programs.
-pub mod Entries
 pub mod Accepted
 pub mod Changes
 pub mod Lands

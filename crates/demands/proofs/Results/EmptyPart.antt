@@ -1,12 +1,8 @@
 -- A part becomes empty and fills again, computed: the two triangles of B come together in part 1 and part again.
 -- Assumes nothing.
 use mathlib.Core.Path.{_≡_, refl}
-use mathlib.Core.List.{List, []}
-use lib.ListN.{length, getD}
-use Rattle.paper.specs.Outcome.{Outcome, refused, accepted}
-use Rattle.paper.specs.Mesh.{Parts, partsOf}
+use Rattle.paper.specs.Outcome.{accepted}
 use Rattle.paper.specs.Placement.{placeIn}
-use Rattle.paper.specs.Sound.{soundOf}
 use Rattle.paper.specs.Move
 use Rattle.paper.specs.Move.{migrateOf}
 use Rattle.demands.specs.Reverse

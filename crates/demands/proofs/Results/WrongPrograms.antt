@@ -3,11 +3,10 @@
 use Prim.Native.Nat.{ℕ}
 use native.Mathlib.Omega.{arith}
 use mathlib.Core.Path.{_≡_, refl, sym, ap, _∙_, fun-ext}
-use mathlib.Core.Bool.{true, false}
 use mathlib.Core.List.{List, [], _∷_, _++_}
 use mathlib.Core.Option.{Option, none, some}
 use lib.ListN.{length, getD}
-use lib.Ieee.{Float, nan, inf, fin}
+use lib.Ieee.{nan, inf, fin}
 use Rattle.paper.specs.declared.Box.{Box}
 use Rattle.paper.specs.Outcome.{Outcome, refused, accepted, _>>=_, answered}
 use Rattle.paper.specs.Image.{Set}
@@ -20,7 +19,7 @@ use Rattle.paper.specs.Box
 use Rattle.paper.proofs.Meshes.{v4, A, B, A₅, twice}
 use Rattle.paper.proofs.OwnMeshes.{lone}
 use Rattle.paper.proofs.Table.{send}
-use Rattle.demands.specs.Programs.{Migrator, Correct, AlwaysCorrect, CorrectCheck, CorrectLookup, CorrectBox, doneWith, exact}
+use Rattle.demands.specs.Programs.{Correct, AlwaysCorrect, CorrectCheck, CorrectLookup, CorrectBox, doneWith, exact}
 use Rattle.demands.specs.WrongPrograms.{instead, refusesAll, gives, handsBack, movesOnce, inventsCount, countsEntries, ownersBefore, countsBig, oldSlots, leavesCopy, dropsEdges, leavesWork, clearsRest, saysSound, lowestOwner, boxFromZero}
 use Rattle.demands.proofs.Results.Examples.{B₅, zeros}
 use Rattle.demands.proofs.Results.Programs.{exact-correct}
