@@ -1,5 +1,4 @@
 -- What follows from the demands and is asked of a migrator: woken twice, empty lists, lists taken back, one answer only, wrong programs.
-pub mod Entries
 pub mod Accepted
 pub mod Changes
 pub mod Lands
@@ -8,8 +7,8 @@ pub mod Empty
 pub mod ReverseList
 pub mod Reverse
 pub mod Nothing
+pub mod Examples
 pub mod EmptyPart
-pub mod OneToOne
 pub mod Unique
 pub mod Programs
 pub mod WrongPrograms

@@ -1,5 +1,4 @@
 pub mod History
 pub mod Reverse
-pub mod Meshes
 pub mod Programs
 pub mod WrongPrograms

@@ -28,7 +28,6 @@ use Rattle.paper.specs.Move.{moved, wholeEntries, Migrated, migrateSet}
 use Rattle.paper.specs.Lookup.{lookupOf}
 use Rattle.paper.specs.Box.{pointOf, growAll}
 use Rattle.demands.specs.Programs.{Migrator, lookupSays, boxSays, doneWith, exact}
-use Rattle.demands.specs.Meshes.{A}
 
 -- ---- migrators that refuse as they should, and then give something else
 
@@ -51,9 +50,9 @@ withCount n m = record { image = m .image; rows = m .rows; objectsMoved = n }
 abbrev pub refusesAll : Migrator
 refusesAll image list out work = doneWith (refused 1 nowhere) out work
 
--- gives A always
-abbrev pub givesA : Migrator
-givesA = instead (λ S l m. withImage A m)
+-- gives one image always, as mesh A's
+abbrev pub gives : List ℕ → Migrator
+gives b = instead (λ S l m. withImage b m)
 
 -- hands its input back
 abbrev pub handsBack : Migrator

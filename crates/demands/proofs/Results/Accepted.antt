@@ -1,31 +1,31 @@
 -- Exactly when a migration is accepted: refusals 13 to 16 judge the list by the part count and the mesh alone, 17 to 19 the buffers.
 -- Assumes nothing.
 use Prim.Native.Nat.{ℕ, _≤_, _<_}
-use mathlib.Core.Path.{_≡_, refl, sym, ap, _∙_, subst}
+use mathlib.Core.Path.{_≡_, sym, ap, _∙_, subst}
 use mathlib.Core.Bool.{Bool}
-use mathlib.Core.List.{List, map}
+use mathlib.Core.List.{List}
+use mathlib.Core.Option.{Option, none, some}
 use lib.ListN.{length}
 use lib.Dec.{T, ltb, leb, leb→le, le→leb}
 use lib.Pow.{areBytes}
 use Rattle.laws.specs.Lists.{In, flat}
-use Rattle.paper.specs.Outcome.{Outcome, accepted}
+use Rattle.paper.specs.Outcome.{accepted, unless}
 use Rattle.paper.specs.Image.{Set, rowTotal}
-use Rattle.paper.specs.Mesh.{Entity, Parts, name, isObject, holds, partsOf, meshOf}
+use Rattle.paper.specs.Mesh.{Entity, Parts, isObject, holds, partsOf, meshOf}
 use Rattle.paper.specs.Sound.{maxImage, soundOf}
-use Rattle.paper.specs.Move.{entryName, entryPart, allEntries, entryFits, Migrated, migrated, sizeSet, migrateSet, migrateOf}
+use Rattle.paper.specs.Move.{entryName, entryPart, allEntries, entriesMust, entryFits, Migrated, migrated, sizeSet, migrateSet, migrateOf}
+use Rattle.laws.proofs.Tests.{iff-eq}
 use Rattle.laws.proofs.Members.{in-flat, flat-in}
+use Rattle.laws.proofs.FirstBad.{all-none}
 use Rattle.paper.proofs.Outcomes.{accepted-inj, bind-inv, then-inv, must-inv}
 use Rattle.demands.proofs.Entities.Names.{holds-in, in-holds}
-use Rattle.demands.proofs.Rows.Entries.{entries-inv}
+use Rattle.demands.proofs.Rows.Outcomes.{must-ok, then-ok, bind-ok}
 use Rattle.demands.proofs.Fit.Record.{Fit}
 use Rattle.demands.proofs.Fit.ToMesh.{in-mesh, mesh-in, mesh-object}
 use Rattle.demands.proofs.Sound.Facts.{sound-inv}
 use Rattle.demands.proofs.Sound.ToFit.{sound-fit}
 use Rattle.demands.proofs.Theorems.Statements.{Accepts, mesh}
-use Rattle.demands.proofs.Results.Entries.{entries-ok}
-use Rattle.laws.proofs.Tests.{iff-eq}
-use Rattle.demands.proofs.Rows.Outcomes.{must-ok, then-ok, bind-ok}
-use Rattle.demands.proofs.Theorems.Went.{migrate-is}
+use Rattle.demands.proofs.Theorems.Went.{went, migrate-is}
 
 -- 13 to 16: the entries stand, name parts below n, and name objects of es
 pub record Listed (n : ℕ) (es : List Entity) (l : List ℕ) : Type 0 where
@@ -42,6 +42,11 @@ pub record Room (S : Set) (l : List ℕ) (out work : ℕ) : Type 0 where
 
 -- ---- of a set
 
+entries-ok : (k : ℕ) (l : List ℕ) (ok : ℕ → Bool) → ((i : ℕ) → i < allEntries l → T (ok i)) → entriesMust k l ok ≡ accepted tt
+unfolding entriesMust unless
+entries-ok k l ok h =
+    ap (λ (o : Option ℕ). unless k (elim o [ none ↦ none | some i ↦ some (record { major = i; minor = 0 }) ])) (all-none ok (allEntries l) h)
+
 set-accepts : (S : Set) (l : List ℕ) (out work : ℕ) → Listed (length S) (flat (partsOf S)) l → Room S l out work
     → migrateSet S l out work ≡ accepted (migrated S l)
 unfolding sizeSet migrateSet
@@ -57,10 +62,9 @@ set-accepts S l out work a r =
     )
     ∙ then-ok _ _ tt (must-ok 19 (leb (length (m .image)) out) (le→leb (length (m .image)) out (r .bytes)))
 
-set-accepted : (S : Set) (l : List ℕ) (out work : ℕ) (m : Migrated) → migrateSet S l out work ≡ accepted m
-    → Listed (length S) (flat (partsOf S)) l × Room S l out work × (migrated S l ≡ m)
+set-room : (S : Set) (l : List ℕ) (out work : ℕ) (m : Migrated) → migrateSet S l out work ≡ accepted m → Room S l out work
 unfolding sizeSet migrateSet
-set-accepted S l out work m e =
+set-room S l out work m e =
     let sized = bind-inv (sizeSet S l work) _ m e in
     let n = sized .0 in
     let s₁₃ = then-inv _ _ n (sized .1) in
@@ -70,20 +74,11 @@ set-accepted S l out work m e =
     let s₁₇ = then-inv _ _ n (s₁₆ .2) in
     let s₁₈ = then-inv _ _ n (s₁₇ .2) in
     let s₁₉ = then-inv _ _ m (sized .2) in
-    let is : migrated S l ≡ n = accepted-inj (s₁₈ .2) in (
-      record {
-        fits = entries-inv 13 l (entryFits l) (s₁₃ .0) (s₁₃ .1);
-        dests = entries-inv 14 l (λ i. ltb (entryPart l i) (length S)) (s₁₄ .0) (s₁₄ .1);
-        there = entries-inv 15 l (λ i. holds (flat (partsOf S)) (entryName l i)) (s₁₅ .0) (s₁₅ .1);
-        object = entries-inv 16 l (λ i. isObject (flat (partsOf S)) (entryName l i)) (s₁₆ .0) (s₁₆ .1);
-      },
-      record {
-        words = leb→le (rowTotal S) work (must-inv 17 (leb (rowTotal S) work) (s₁₇ .0) (s₁₇ .1));
-        small = leb→le (length (migrated S l .image)) maxImage (must-inv 18 (leb (length (migrated S l .image)) maxImage) (s₁₈ .0) (s₁₈ .1));
-        bytes = subst (λ (x : Migrated). length (x .image) ≤ out) (sym is) (leb→le (length (n .image)) out (must-inv 19 (leb (length (n .image)) out) (s₁₉ .0) (s₁₉ .1)));
-      },
-      is ∙ accepted-inj (s₁₉ .2),
-    )
+    record {
+      words = leb→le (rowTotal S) work (must-inv 17 (leb (rowTotal S) work) (s₁₇ .0) (s₁₇ .1));
+      small = leb→le (length (migrated S l .image)) maxImage (must-inv 18 (leb (length (migrated S l .image)) maxImage) (s₁₈ .0) (s₁₈ .1));
+      bytes = subst (λ (x : Migrated). length (x .image) ≤ out) (sym (accepted-inj (s₁₈ .2))) (leb→le (length (n .image)) out (must-inv 19 (leb (length (n .image)) out) (s₁₉ .0) (s₁₉ .1)));
+    }
 
 -- ---- the mesh says the same of a name as all parts together
 
@@ -98,15 +93,6 @@ module _ (ps : Parts) (F : Fit ps) where
   mesh-holds : (k : ℕ) → holds (flat ps) k ≡ holds (meshOf ps) k
   mesh-holds k =
       holds-same (flat ps) (meshOf ps) k (λ e i. let w = flat-in ps e i in in-mesh ps F (w .0) e (w .2)) (λ e i. let w = mesh-in ps F e i in in-flat ps (w .0) e (w .2))
-
-  to-mesh : (n : ℕ) (l : List ℕ) → Listed n (flat ps) l → Listed n (meshOf ps) l
-  to-mesh n l a =
-      record {
-        fits = a .fits;
-        dests = a .dests;
-        there = λ i h. subst T (mesh-holds (entryName l i)) (a .there i h);
-        object = λ i h. subst T (mesh-object ps F (entryName l i)) (a .object i h);
-      }
 
   of-mesh : (n : ℕ) (l : List ℕ) → Listed n (meshOf ps) l → Listed n (flat ps) l
   of-mesh n l a =
@@ -130,8 +116,18 @@ move-accepts b S l out work y a h r =
 pub move-accepted : (b : List ℕ) (S : Set) (l : List ℕ) (out work : ℕ) (m : Migrated) → T (areBytes b) → Accepts b S → migrateOf b l out work ≡ accepted m
     → Listed (length S) (mesh S) l × Room S l out work × (migrated S l ≡ m)
 move-accepted b S l out work m y a e =
-    let w = set-accepted S l out work m (sym (migrate-is b S l out work a) ∙ e) in
-    (to-mesh (partsOf S) (image-fit b S y a) (length S) l (w .0), w .1, w .2)
+    let taken = sym (migrate-is b S l out work a) ∙ e in
+    let w = went S l out work m taken in
+    let F = image-fit b S y a in (
+      record {
+        fits = w .entries;
+        dests = w .dests;
+        there = λ i h. subst T (mesh-holds (partsOf S) F (entryName l i)) (w .there i h);
+        object = λ i h. subst T (mesh-object (partsOf S) F (entryName l i)) (w .objects i h);
+      },
+      set-room S l out work m taken,
+      w .is,
+    )
 
 -- an accepted image is not too long
 pub image-small : (b : List ℕ) (S : Set) → Accepts b S → length b ≤ maxImage

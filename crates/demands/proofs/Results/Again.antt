@@ -1,20 +1,20 @@
 -- Woken twice: a migration that is run again on its own result is accepted, gives the same bytes and moves nothing.
 -- Assumes nothing.
 use Prim.Native.Nat.{ℕ, _≤_}
-use mathlib.Core.Path.{_≡_, refl, sym, ap, ap₂, _∙_, subst, subst₂, fun-ext}
+use mathlib.Core.Path.{_≡_, refl, sym, ap, _∙_, subst, subst₂, fun-ext}
 use mathlib.Core.List.{List}
 use mathlib.Core.Option.{Option, none, some, Option·getD}
 use lib.ListN.{length}
 use lib.Dec.{T}
 use lib.Pow.{areBytes}
 use Rattle.paper.specs.Outcome.{accepted}
-use Rattle.paper.specs.Image.{Set, rowTotal}
+use Rattle.paper.specs.Image.{rowTotal}
 use Rattle.paper.specs.Mesh.{Entity}
 use Rattle.paper.specs.Sound.{maxImage}
 use Rattle.paper.specs.Placement.{Placement, objects, placesOf}
 use Rattle.paper.specs.Move.{destOf, moved, Migrated, migrated, migrateOf}
 use Rattle.demands.proofs.Theorems.Statements.{mesh, places}
-use Rattle.demands.proofs.Results.Accepted.{Listed, Room, move-accepts}
+use Rattle.demands.proofs.Results.Accepted.{Listed, move-accepts}
 use Rattle.demands.proofs.Results.Lands.{After, after, stays, set-of}
 use Rattle.demands.proofs.Theorems.Now.{Now}
 use Rattle.demands.proofs.Theorems.Destinations.{moved-same}

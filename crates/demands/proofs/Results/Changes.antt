@@ -1,10 +1,10 @@
 -- The number of places at which two lists differ: none of a list and itself, and the same both ways.
 -- Assumes nothing.
 use Prim.Native.Nat.{ℕ, _+_}
-use mathlib.Core.Path.{_≡_, refl, sym, ap, ap₂, subst}
+use mathlib.Core.Path.{_≡_, refl, sym, ap, ap₂}
 use mathlib.Core.Bool.{Bool, cond}
 use mathlib.Core.List.{List, [], _∷_}
-use lib.Dec.{T, eqb, eqb-refl, eqb→eq}
+use lib.Dec.{eqb, eqb-refl, eqb→eq}
 use Rattle.paper.specs.Move.{changes}
 use Rattle.laws.proofs.Tests.{T-true, iff-eq, eq-eqb}
 

@@ -2,7 +2,6 @@
 -- Assumes nothing.
 use Prim.Native.Nat.{ℕ, _≤_}
 use native.Mathlib.Nat.{not-suc-le-zero}
-use native.Mathlib.Omega.{arith}
 use mathlib.Core.Path.{_≡_, refl, sym, ap, _∙_, subst}
 use mathlib.Core.List.{List, []}
 use lib.ListN.{length}
@@ -16,7 +15,7 @@ use Rattle.paper.specs.Sound.{maxImage}
 use Rattle.paper.specs.Placement.{Placement, placesOf}
 use Rattle.paper.specs.Move.{destOf, moved, Migrated, migrated, migrateOf}
 use Rattle.demands.proofs.Theorems.Statements.{Accepts, mesh, places}
-use Rattle.demands.proofs.Results.Accepted.{Listed, Room, move-accepts, image-small}
+use Rattle.demands.proofs.Results.Accepted.{Listed, move-accepts, image-small}
 use Rattle.demands.proofs.Results.Lands.{stays}
 
 -- it names no destination

@@ -18,10 +18,10 @@ use Rattle.demands.proofs.Sound.Facts.{sound-inv}
 use Rattle.demands.proofs.Sound.Canonical.{sound-canon}
 use Rattle.demands.proofs.Theorems.Statements.{Accepts, mesh, places}
 use Rattle.demands.proofs.Theorems.T1.{theorem-1}
-use Rattle.demands.proofs.Results.Accepted.{Listed, Room, move-accepted}
+use Rattle.demands.proofs.Results.Accepted.{Listed, move-accepted}
 use Rattle.demands.proofs.Results.Changes.{changes-none}
 use Rattle.demands.proofs.Theorems.Now.{Now, begin, moves-at, writes}
-use Rattle.demands.proofs.Theorems.Went.{Went, went, migrate-is}
+use Rattle.demands.proofs.Theorems.Went.{went, migrate-is}
 use Rattle.demands.proofs.Theorems.SameBytes.{same-bytes}
 
 -- ---- to an accepted image

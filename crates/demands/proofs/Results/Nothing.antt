@@ -2,7 +2,7 @@
 -- has an entity in one slot, and a partition object is in exactly one part.
 -- Assumes nothing.
 use Prim.Native.Nat.{ℕ, _<_}
-use mathlib.Core.Path.{_≡_, refl, sym, ap, _∙_, subst}
+use mathlib.Core.Path.{_≡_, sym, ap, _∙_, subst}
 use mathlib.Core.List.{List, []}
 use lib.ListN.{length, getD}
 use lib.Dec.{T}
@@ -11,16 +11,14 @@ use Rattle.laws.specs.Lists.{In}
 use Rattle.paper.specs.Outcome.{accepted}
 use Rattle.paper.specs.Image.{Set}
 use Rattle.paper.specs.Mesh.{Entity, name, isObject, slotIn, partsOf}
-use Rattle.paper.specs.Placement.{Placement}
-use Rattle.paper.specs.Move.{moved, Migrated, migrateOf}
+use Rattle.paper.specs.Move.{Migrated, migrateOf}
 use Rattle.demands.proofs.Fit.Record.{Fit}
 use Rattle.demands.proofs.Fit.ToMesh.{in-mesh, mesh-in, object-found}
 use Rattle.demands.proofs.Sound.Facts.{sound-inv}
 use Rattle.demands.proofs.Sound.Rows.{ent, parts-count, slot-is}
-use Rattle.demands.proofs.Theorems.Statements.{Accepts, mesh, places}
+use Rattle.demands.proofs.Theorems.Statements.{Accepts, mesh}
 use Rattle.demands.proofs.Results.Accepted.{image-fit}
-use Rattle.demands.proofs.Results.Lands.{After, after}
-use Rattle.demands.proofs.Theorems.Now.{Now}
+use Rattle.demands.proofs.Results.Lands.{after}
 use Rattle.demands.proofs.Theorems.SameBytes.{same-bytes}
 
 -- of a set S′ and a mesh es

@@ -1,7 +1,7 @@
 -- Each promise is kept by a program, and by no other: a program that keeps it does for every input what that one does.
 -- Assumes nothing.
 use Prim.Native.Nat.{ℕ}
-use mathlib.Core.Path.{_≡_, refl, sym}
+use mathlib.Core.Path.{_≡_, refl}
 use mathlib.Core.List.{List}
 use mathlib.Core.Option.{Option, none, some}
 use lib.ListN.{length}
@@ -15,7 +15,7 @@ use Rattle.paper.specs.Move.{Sizes, migrateOf, sizesOf}
 use Rattle.paper.specs.Lookup.{Found, lookupOf}
 use Rattle.paper.specs.Box.{boxOf}
 use Rattle.paper.specs.Answers.{checkAnswer, migrateAnswer, lookupAnswer, boxAnswer}
-use Rattle.demands.specs.Programs.{Done, Migrator, Correct, CorrectCheck, CorrectLookup, CorrectBox, checkSays, migrateSays, lookupSays, boxSays, exact, exactCheck, exactLookup, exactBox}
+use Rattle.demands.specs.Programs.{Migrator, Correct, CorrectCheck, CorrectLookup, CorrectBox, checkSays, migrateSays, lookupSays, boxSays, exact, exactCheck, exactLookup, exactBox}
 use Rattle.demands.proofs.Results.Unique.{checks-one, migrates-one, looks-up-one, bounds-one}
 
 -- ---- an answer for each outcome

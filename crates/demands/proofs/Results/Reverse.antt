@@ -2,16 +2,16 @@
 -- Assumes nothing.
 use Prim.Native.Nat.{ℕ, _≤_, _<_}
 use native.Mathlib.Omega.{arith}
-use mathlib.Core.Path.{_≡_, refl, sym, ap, ap₂, _∙_, subst, subst₂}
+use mathlib.Core.Path.{_≡_, sym, ap, ap₂, _∙_, subst, subst₂}
 use mathlib.Core.List.{List}
 use lib.ListN.{length}
 use lib.Dec.{T}
 use lib.Pow.{areBytes}
 use Rattle.paper.specs.Outcome.{accepted}
 use Rattle.paper.specs.Image.{Set, rowTotal}
-use Rattle.paper.specs.Mesh.{Entity, name, holds, partsOf}
+use Rattle.paper.specs.Mesh.{Entity, holds, partsOf}
 use Rattle.paper.specs.Sound.{maxImage}
-use Rattle.paper.specs.Placement.{Placement, objects, placesOf}
+use Rattle.paper.specs.Placement.{objects, placesOf}
 use Rattle.paper.specs.Move.{entryName, moved, changes, Migrated, migrated, migrateOf}
 use Rattle.demands.specs.Reverse.{reverseOf}
 use Rattle.demands.proofs.Entities.Names.{holds-in}
@@ -19,7 +19,7 @@ use Rattle.demands.proofs.Fit.Record.{Fit}
 use Rattle.demands.proofs.Fit.ToMesh.{mesh-in, found}
 use Rattle.demands.proofs.Sound.Rows.{parts-count}
 use Rattle.demands.proofs.Theorems.Statements.{Accepts, mesh, places}
-use Rattle.demands.proofs.Results.Accepted.{Listed, Room, move-accepts, move-accepted, image-fit, image-small}
+use Rattle.demands.proofs.Results.Accepted.{Listed, move-accepts, move-accepted, image-fit, image-small}
 use Rattle.demands.proofs.Results.Changes.{changes-sym}
 use Rattle.demands.proofs.Results.Lands.{After, after, lands}
 use Rattle.demands.proofs.Results.ReverseList.{moved-back, reverse-listed, reverse-bytes}

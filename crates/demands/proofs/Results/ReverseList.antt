@@ -3,7 +3,7 @@
 use Prim.Native.Nat.{ℕ, zero, suc, _+_, _*_, _/_, _≤_, _<_}
 use native.Mathlib.Omega.{arith}
 use mathlib.Core.Path.{_≡_, refl, sym, ap, ap₂, _∙_, subst, fun-ext}
-use mathlib.Core.Bool.{Bool, true, false, not}
+use mathlib.Core.Bool.{Bool, not}
 use mathlib.Core.Logic.{_⊎_, inl, inr}
 use mathlib.Core.List.{List, [], _∷_}
 use mathlib.Core.Option.{Option, none, some, Option·getD}
@@ -17,10 +17,9 @@ use Rattle.paper.specs.Mesh.{Entity, isObject, holds}
 use Rattle.paper.specs.Placement.{Placement}
 use Rattle.paper.specs.Move.{entryName, entryPart, wholeEntries, allEntries, ascends, entryFits, destOf, moved}
 use Rattle.demands.specs.Reverse.{turned, reverseOf}
-use Rattle.laws.proofs.Tests.{and-l, and-r, both, split4, decide, eq-eqb}
-use Rattle.demands.proofs.Results.Entries.{bad-fails}
+use Rattle.laws.proofs.Tests.{and-l, and-r, both, split4, decide, eq-eqb, not-not}
+use Rattle.laws.proofs.FirstBad.{bad-lt, bad-fails}
 use Rattle.demands.proofs.Results.Accepted.{Listed}
-use Rattle.laws.proofs.FirstBad.{bad-lt}
 
 set-bytes : (b : List ℕ) (i v : ℕ) → T (areBytes b) → v < 256 → T (areBytes (set b i v))
 set-bytes [] i v y h = y
@@ -115,11 +114,8 @@ module _ (place : Placement) (l : List ℕ) where
           (elim (elim o as (λ _. Option ℕ) [ none ↦ none | some i ↦ some (entryPart l i) ]) [ none ↦ none | some d ↦ some (place k) ])
       go none e = refl
       go (some i) e =
-          ap some (reverse-part i (bad-lt other (wholeEntries l) i e) ∙ ap place (named (eqb (entryName l i) k) refl (bad-fails other (upTo (wholeEntries l)) i e)))
-        where
-          named : (t : Bool) → eqb (entryName l i) k ≡ t → T (not (not t)) → entryName l i ≡ k
-          named true q s = eqb→eq (entryName l i) k (subst T (sym q) tt)
-          named false q s = absurd s
+          let named = eqb→eq (entryName l i) k (not-not (eqb (entryName l i) k) (bad-fails other (wholeEntries l) i e)) in
+          ap some (reverse-part i (bad-lt other (wholeEntries l) i e) ∙ ap place named)
 
   pub moved-back : moved (reverseOf place l) (moved l place) ≡ place
   unfolding moved

@@ -8,7 +8,7 @@ use Rattle.paper.specs.declared.MigrateAnswer.{MigrateAnswer}
 use Rattle.paper.specs.declared.LookupAnswer.{LookupAnswer}
 use Rattle.paper.specs.declared.BoxAnswer.{BoxAnswer}
 use Rattle.paper.specs.Promises.{Checks, Migrates, LooksUp, Bounds}
-use Rattle.demands.proofs.Results.OneToOne.{check-one, migrate-one, lookup-one, box-one}
+use Rattle.paper.proofs.Injective.{check-one, migrate-one, lookup-one, box-one}
 
 pub checks-one : {image : List ℕ} {r r′ : CheckAnswer} → Checks image r → Checks image r′ → r ≡ r′
 checks-one {r} {r′} c c′ = check-one r r′ (c .answer ∙ sym (c′ .answer))

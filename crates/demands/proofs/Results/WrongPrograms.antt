@@ -2,12 +2,11 @@
 -- Assumes nothing.
 use Prim.Native.Nat.{ℕ}
 use native.Mathlib.Omega.{arith}
-use mathlib.Core.Path.{_≡_, refl, ap, fun-ext}
-use mathlib.Core.Bool.{true, false}
+use mathlib.Core.Path.{_≡_, refl, sym, ap, _∙_, fun-ext}
 use mathlib.Core.List.{List, [], _∷_, _++_}
 use mathlib.Core.Option.{Option, none, some}
 use lib.ListN.{length, getD}
-use lib.Ieee.{Float, nan, inf, fin}
+use lib.Ieee.{nan, inf, fin}
 use Rattle.paper.specs.declared.Box.{Box}
 use Rattle.paper.specs.Outcome.{Outcome, refused, accepted, _>>=_, answered}
 use Rattle.paper.specs.Image.{Set}
@@ -17,9 +16,12 @@ use Rattle.paper.specs.Move.{Migrated, Sizes, migrateSet, migrateOf}
 use Rattle.paper.specs.Lookup
 use Rattle.paper.specs.Lookup.{Found}
 use Rattle.paper.specs.Box
-use Rattle.demands.specs.Meshes.{A, B, A₅, B₅, twice, lone, send, zeros}
-use Rattle.demands.specs.Programs.{Migrator, Correct, AlwaysCorrect, CorrectCheck, CorrectLookup, CorrectBox, doneWith, exact}
-use Rattle.demands.specs.WrongPrograms.{instead, refusesAll, givesA, handsBack, movesOnce, inventsCount, countsEntries, ownersBefore, countsBig, oldSlots, leavesCopy, dropsEdges, leavesWork, clearsRest, saysSound, lowestOwner, boxFromZero}
+use Rattle.paper.proofs.Meshes.{v4, A, B, A₅, twice}
+use Rattle.paper.proofs.OwnMeshes.{lone}
+use Rattle.paper.proofs.Table.{send}
+use Rattle.demands.specs.Programs.{Correct, AlwaysCorrect, CorrectCheck, CorrectLookup, CorrectBox, doneWith, exact}
+use Rattle.demands.specs.WrongPrograms.{instead, refusesAll, gives, handsBack, movesOnce, inventsCount, countsEntries, ownersBefore, countsBig, oldSlots, leavesCopy, dropsEdges, leavesWork, clearsRest, saysSound, lowestOwner, boxFromZero}
+use Rattle.demands.proofs.Results.Examples.{B₅, zeros}
 use Rattle.demands.proofs.Results.Programs.{exact-correct}
 
 -- ---- what the answers are compared by
@@ -63,10 +65,16 @@ pub refuses-all-wrong : Correct refusesAll → ⊥
 unfolding Move.computes
 refuses-all-wrong c = let e : _≡_ {A = ℕ} 1 0 = ap code (c A [] (zeros 544) (zeros 11) .answer) in omega arith
 
--- byte 8 is the row count of part 0
-pub gives-a-wrong : Correct givesA → ⊥
+-- whichever image it is: an empty list gives A back of A and B of B, and byte 8 is the row count of part 0
+pub gives-one-wrong : (b : List ℕ) → Correct (gives b) → ⊥
 unfolding Move.computes
-gives-a-wrong c = let e : _≡_ {A = ℕ} 11 0 = ap (λ (o : List ℕ). getD o 8 0) (c A bothToOne (zeros 544) (zeros 11) .output) in omega arith
+gives-one-wrong b c =
+    let e : A ++ zeros 168 ≡ B = sym (c A [] (zeros 712) (zeros 14) .output) ∙ c B [] (zeros 712) (zeros 14) .output in
+    let n : _≡_ {A = ℕ} 11 7 = ap (λ (o : List ℕ). getD o 8 0) e in
+    omega arith
+
+pub gives-a-wrong : Correct (gives A) → ⊥
+gives-a-wrong = gives-one-wrong A
 
 pub hands-back-wrong : Correct handsBack → ⊥
 unfolding Move.computes
@@ -145,4 +153,4 @@ lowest-owner-wrong c = let e : _≡_ {A = ℕ} 0 1 = ap ownerSaid (c B₅ 0 2 .a
 
 pub box-from-zero-wrong : CorrectBox boxFromZero → ⊥
 unfolding Move.computes Box.computes
-box-from-zero-wrong c = let e : _≡_ {A = ℕ} 0 1 = ap leastX (c lone 0 .answer) in omega arith
+box-from-zero-wrong c = let e : _≡_ {A = ℕ} 0 1 = ap leastX (c (lone v4) 0 .answer) in omega arith
