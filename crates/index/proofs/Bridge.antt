@@ -3,10 +3,10 @@ use Prim.Native.Nat.{ℕ, zero, suc, _+_, _-_, _*_, _<_, _≤_}
 use native.Mathlib.Nat.{add-zero, le-refl, lt-of-not-le}
 use native.Mathlib.Decide.{decLe}
 use native.Mathlib.Omega.{arith}
-use mathlib.Core.Path.{_≡_, refl, sym, ap, ap₂, _∙_}
-use mathlib.Core.Bool.{true, false}
+use mathlib.Core.Path.{_≡_, refl, ap, ap₂, _∙_}
+use mathlib.Core.Bool.{true}
 use mathlib.Core.Logic.{_⊎_, inl, inr}
-use mathlib.Core.List.{List, [], _∷_, map}
+use mathlib.Core.List.{List, map}
 use mathlib.Core.Option.{Option, none, some}
 use lib.ListN.{length, drop, length-drop, drop-of-length-le}
 use lib.Seq.{drop-cons, drop-drop}
@@ -15,7 +15,7 @@ use borrow.Author.Tests.{le-leb, lt-leb}
 use Rattle.laws.specs.Lists.{In, flat, need}
 use Rattle.laws.proofs.Members.{in-either}
 use Rattle.field.specs.Bytes.{u32At, u64At}
-use Rattle.paper.specs.Image.{Row, Set, rowLength, rowIn, consRow, consPart, walked, walkRows, walkParts}
+use Rattle.paper.specs.Image.{Row, Set, rowLength, consRow, consPart, walked, walkRows, walkParts}
 use Rattle.index.specs.Index.{rowFrom}
 use Rattle.index.specs.Places.{lengthAt, rowsEnd, rowOffs, partEnd, partsEnd, partOffs}
 use Rattle.index.proofs.RowFields.{u32-drop, u64-drop, row-long-enough}

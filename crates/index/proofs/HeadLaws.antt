@@ -1,12 +1,12 @@
 -- The head's number, test by test, and what a head that passes says. Assumes nothing.
-use Prim.Native.Nat.{ℕ, zero, suc, _<_, _≤_}
+use Prim.Native.Nat.{ℕ, suc, _<_, _≤_}
 use native.Mathlib.Nat.{not-suc-le-zero, le-of-suc-le-suc}
 use native.Mathlib.Omega.{arith}
-use mathlib.Core.Path.{_≡_, refl, sym, ap, _∙_}
+use mathlib.Core.Path.{_≡_, refl}
 use mathlib.Core.Bool.{Bool, true, false, _&&_, cond}
 use mathlib.Core.List.{List, [], _∷_}
-use lib.ListN.{length, getD, take}
-use lib.Dec.{T, leb, ltb, eqb, leb→le, ltb→lt}
+use lib.ListN.{length, getD}
+use lib.Dec.{leb, ltb, eqb, leb→le, ltb→lt}
 use borrow.Author.Tests.{le-leb, lt-leb, eq-eqb, ne-eqb, leb-true, eqb-true}
 use Rattle.laws.specs.Lists.{same}
 use Rattle.laws.proofs.Tests.{split3, true-T}

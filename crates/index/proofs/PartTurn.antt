@@ -1,12 +1,11 @@
 -- A turn of the loop of `walk`, on plain values. Assumes nothing.
-use Prim.Native.Nat.{ℕ, zero, suc, _+_, _-_, _*_, _≤_, _<_}
+use Prim.Native.Nat.{ℕ, suc, _+_, _-_, _*_, _≤_, _<_}
 use native.Mathlib.Decide.{decLe}
 use native.Mathlib.Nat.{lt-of-not-le, add-zero, add-assoc}
 use native.Mathlib.Numerals.{add-one}
 use native.Mathlib.Omega.{arith}
-use mathlib.Core.Path.{_≡_, refl, sym, ap, ap₂, _∙_, subst}
+use mathlib.Core.Path.{_≡_, refl, sym, ap, _∙_}
 use mathlib.Core.List.{List, [], _∷_, _++_, map, map-append}
-use mathlib.Core.Option.{none}
 use lib.ListN.{length, drop, set, length-set, length-append, length-map}
 use lib.Seq.{sets}
 use borrow.Author.Tests.{le-leb, lt-leb}
@@ -16,7 +15,6 @@ use Rattle.paper.specs.Image.{walkParts}
 use Rattle.paper.specs.Sound.{maxImage}
 use Rattle.index.specs.declared.End.{End}
 use Rattle.index.specs.declared.End.the-variants.{At, Over}
-use Rattle.index.specs.declared.Walked.{Walked}
 use Rattle.index.specs.declared.Walked.the-variants.{Rows, Bad}
 use Rattle.index.specs.Index.{maxRows}
 use Rattle.index.specs.Places.{nameFrom, rowsEnd, rowOffs, partEnd, partsEnd, partOffs, startsOf}

@@ -10,7 +10,7 @@ use lib.Seq.{getD-drop, getD-take, drop-drop}
 use Rattle.laws.specs.Lists.{keep, upTo}
 use Rattle.field.specs.Bytes.{u8At, u16At, u32At, u64At, words, longs}
 use Rattle.part_set.specs.Masks.{has, partsIn, count}
-use Rattle.paper.specs.Image.{Row, remotes, rowLength, rowIn}
+use Rattle.paper.specs.Image.{remotes, rowLength, rowIn}
 use Rattle.index.specs.Index.{rowFrom}
 use Rattle.laws.proofs.Ranges.{length-upTo}
 

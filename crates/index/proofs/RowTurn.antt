@@ -1,8 +1,8 @@
 -- The length and the name of a row, and a turn of the loop of `walk_rows`, on plain values. Assumes nothing.
-use Prim.Native.Nat.{ℕ, zero, suc, _+_, _-_, _*_, _^_, _≤_, _<_}
+use Prim.Native.Nat.{ℕ, zero, suc, _+_, _-_, _*_, _≤_, _<_}
 use native.Mathlib.Numerals.{add-one, sub-one}
 use native.Mathlib.Omega.{arith}
-use mathlib.Core.Path.{_≡_, refl, sym, ap, ap₂, _∙_}
+use mathlib.Core.Path.{_≡_, refl, sym, ap₂, _∙_}
 use mathlib.Core.List.{List, map}
 use lib.ListN.{length, set, length-set}
 use lib.Seq.{sets}
@@ -11,11 +11,10 @@ use Rattle.field.specs.Bytes.{u8At, u32At, u64At}
 use Rattle.part_set.specs.Masks.{count}
 use Rattle.paper.specs.Image.{remotes, rowLength}
 use Rattle.paper.specs.Sound.{maxImage, nameOfRow}
-use Rattle.index.specs.declared.End.{End}
 use Rattle.index.specs.declared.End.the-variants.{At, Over}
 use Rattle.index.specs.Index.{rowFrom}
 use Rattle.index.specs.Places.{lengthAt, nameFrom, rowsEnd, rowOffs}
-use Rattle.index.specs.Walk.{endIn, RowsAhead, RowsWalked}
+use Rattle.index.specs.Walk.{RowsAhead, RowsWalked}
 use Rattle.index.proofs.RowFields.{row-dim, row-number, row-long-enough, row-not-longer}
 use Rattle.index.proofs.Bridge.{rowsEnd-room}
 

@@ -8,15 +8,15 @@ use mathlib.Core.List.{List, [], _∷_, _++_, map}
 use mathlib.Core.Option.{Option, some, Option·getD}
 use lib.ListN.{length, getD, drop, length-append, length-map, List·getD-append, List·getD-map}
 use lib.Seq.{sets, sets-eq, length-sets, getD-append-add}
-use Rattle.laws.specs.Lists.{In, flat}
+use Rattle.laws.specs.Lists.{flat}
 use Rattle.laws.proofs.Members.{getD-in, in-flat}
-use Rattle.field.specs.Bytes.{u8At, u32At, u64At}
+use Rattle.field.specs.Bytes.{u8At, u32At}
 use Rattle.paper.specs.Image.{Row, Set, noRow, rowLength, walkParts, rowAt, rowTotal}
 use Rattle.paper.specs.Sound.{maxImage, nameOfRow}
 use Rattle.index.specs.Index.{rowFrom, setIn, maxRows, Indexed, Named}
-use Rattle.index.specs.Places.{lengthAt, nameFrom, rowsEnd, rowOffs, partEnd, partsEnd, partOffs, startsOf}
+use Rattle.index.specs.Places.{lengthAt, nameFrom, rowOffs, partEnd, partsEnd, partOffs, startsOf}
 use Rattle.index.proofs.RowFields.{row-mask}
-use Rattle.index.proofs.Bridge.{rowsEnd-room, partsEnd-room, parts-within, length-rowOffs, length-partOffs, partsAt, parts-there}
+use Rattle.index.proofs.Bridge.{rowsEnd-room, parts-within, length-rowOffs, length-partOffs, partsAt, parts-there}
 use Rattle.laws.proofs.Agree.{getD-map}
 
 -- ---- lists of lists

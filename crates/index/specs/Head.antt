@@ -6,7 +6,7 @@ use lib.ListN.{length, getD, take}
 use lib.Dec.{leb, ltb, eqb}
 use Rattle.laws.specs.Lists.{same}
 use Rattle.field.specs.Bytes.{u8At, u16At}
-use Rattle.paper.specs.Outcome.{Outcome, accepted, _>>=_, _>>_}
+use Rattle.paper.specs.Outcome.{Outcome, accepted, _>>_}
 use Rattle.paper.specs.Image.{Set, rowAt}
 use Rattle.paper.specs.Sound.{maxImage, rowsMust, fieldsFit, ordered, boundaryStands, copiesAgree, residesWell, ownedWell}
 

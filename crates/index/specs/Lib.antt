@@ -2,3 +2,4 @@ pub mod Index
 pub mod Head
 pub mod Places
 pub mod Walk
+pub mod Find

@@ -1,4 +1,6 @@
 // The index of an image: refusals 1 to 6, the offset and the name of every row, the first row of every part, and the search in a part.
+use paper::Part;
+use paper::Slot;
 ghost use Prim.Native.Nat.{ℕ, _+_, _≤_, _<_};
 ghost use mathlib.Core.Path.{_≡_};
 ghost use lib.ListN.{length};
@@ -6,6 +8,7 @@ ghost use Rattle.paper.specs.Image.{rowLength};
 ghost use Rattle.paper.specs.Sound.{nameOfRow};
 ghost use Rattle.index.specs.Index.{rowFrom};
 ghost use Rattle.index.specs.Head.{marked, partsCounted, headNumber};
+ghost use Rattle.index.specs.Find.{Sorted, Lower, Searchable, Sought};
 ghost use Rattle.index.specs.Walk.{RowsAhead, RowsWalked, Walkable, WalkDone};
 
 // Where the rows of a part end, or that they run past the image.
@@ -18,6 +21,12 @@ enum End {
 pub enum Walked {
     Rows(usize),
     Bad,
+}
+
+// The slot of the row with a name, or the slot where it would stand.
+pub enum Found {
+    At(Slot),
+    Absent(Slot),
 }
 
 // Whether the image starts with its mark.
@@ -143,4 +152,46 @@ pub fn walk(image: &[u8], offs: &mut [u32], starts: &mut [u32], keys: &mut [u64]
         return Walked::Rows(row);
     }
     Walked::Bad
+}
+
+// The first of the keys from `first` to `last` that is not below `name`, or `last`.
+fn lower(keys: &[u64], first: usize, last: usize, name: u64) -> usize
+    requires { ⌜ Sorted (now keys) first last ⌝ }
+    ensures { λ r. ⌜ Lower (now (keys .entry)) first last name r ⌝ }
+{
+    let mut lo = first;
+    let mut hi = last;
+    while lo < hi {
+        let mid = lo + (hi - lo) / 2;
+        if keys[mid] < name {
+            lo = mid + 1;
+        } else {
+            hi = mid;
+        }
+    }
+    lo
+}
+
+fn wide(x: u32) -> usize
+    ensures { λ r. ⌜ (r ≡ x) × (r < 4294967296) ⌝ }
+{
+    x as usize
+}
+
+// The slot of the row of `part` that has this name, by a search in halves.
+pub fn find(keys: &[u64], starts: &[u32], part: Part, name: u64) -> Found
+    requires { ⌜ Searchable (now keys) (now starts) (part .0) ⌝ }
+    ensures { λ r. ⌜ Sought (now (keys .entry)) (now (starts .entry)) (part .0) name r ⌝ }
+{
+    let p = part.0 as usize;
+    let first = wide(starts[p]);
+    let last = wide(starts[p + 1]);
+    let i = lower(keys, first, last, name);
+    let slot = (i - first) as u32;
+    if i < last {
+        if keys[i] == name {
+            return Found::At(Slot(slot));
+        }
+    }
+    Found::Absent(Slot(slot))
 }

@@ -1,21 +1,15 @@
-use Rattle.index.specs.Head.{partsCounted}
+-- `index::has_count`: the bytes at 5 to 7. Assumes nothing.
 use borrow.Author.Needs.{needs}
+use Rattle.index.specs.Head.{partsCounted}
 use Rattle.index.proofs.has_count.Statement.{statement}
 use Rattle.index.proofs.has_count.Tie as tie
-use Rattle.index.proofs.has_count.Reads as reads
-use Rattle.index.proofs.has_count.Lts as lts
-use Rattle.field.proofs.byte_at.Reads as byte-at-reads
-use Rattle.field.proofs.half_at.Reads as half-at-reads
 
--- src/lib.rt:20:9
 byte-at-requires : tie.Need-byte-at-requires
 byte-at-requires c κs = search needs
 
--- src/lib.rt:21:36
 half-at-requires : tie.Need-half-at-requires
 half-at-requires c κs = search needs
 
--- src/lib.rt:16:1
 returns : tie.Need-returns
 unfolding partsCounted
 returns c = cc

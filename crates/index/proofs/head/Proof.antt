@@ -1,47 +1,35 @@
-use borrow.Author.Tests.{not-true, not-false}
+-- `index::head`: the refusals 1 to 5 in their order. Assumes nothing.
 use mathlib.Core.Path.{sym, _∙_}
 use native.Mathlib.Omega.{arith}
-use Rattle.index.proofs.HeadLaws.{refuse-1, refuse-2, refuse-3, refuse-4, refuse-5, head-passes}
+use borrow.Author.Tests.{not-true, not-false}
 use borrow.Author.Needs.{needs}
+use Rattle.index.proofs.HeadLaws.{refuse-1, refuse-2, refuse-3, refuse-4, refuse-5, head-passes}
 use Rattle.index.proofs.head.Statement.{statement}
 use Rattle.index.proofs.head.Tie as tie
-use Rattle.index.proofs.head.Reads as reads
-use Rattle.index.proofs.head.Lts as lts
-use Rattle.field.proofs.half_at.Reads as half-at-reads
-use Rattle.index.proofs.has_count.Reads as has-count-reads
-use Rattle.index.proofs.has_mark.Reads as has-mark-reads
 
--- src/lib.rt:29:9
 returns : tie.Need-returns
 returns c = refuse-1 _ (c .if1 .taken)
 
--- src/lib.rt:32:9
 returns-2 : tie.Need-returns-2
 returns-2 c = refuse-2 _ (omega arith) (c .if2 .taken)
 
--- src/lib.rt:34:9
 has-mark-requires : tie.Need-has-mark-requires
 has-mark-requires c κs = search needs
 
--- src/lib.rt:35:9
 returns-3 : tie.Need-returns-3
 returns-3 c = refuse-3 _ (omega arith) (omega arith) (sym (c .before .has-mark .ensures) ∙ not-true _ (c .if3 .taken))
 
--- src/lib.rt:37:8
 half-at-requires : tie.Need-half-at-requires
 half-at-requires c κs = search needs
 
--- src/lib.rt:38:9
 returns-4 : tie.Need-returns-4
 returns-4 c =
     let mark = c .before .before in
     refuse-4 _ (omega arith) (omega arith) (sym (mark .before .has-mark .ensures) ∙ not-false _ (mark .if3 .left)) (λ e. c .if4 .taken (c .before .half-at .ensures .0 ∙ e))
 
--- src/lib.rt:40:9
 has-count-requires : tie.Need-has-count-requires
 has-count-requires c κs = search needs
 
--- src/lib.rt:41:9
 returns-5 : tie.Need-returns-5
 returns-5 c =
     let half = c .before .before in
@@ -49,7 +37,6 @@ returns-5 c =
     refuse-5 _ (omega arith) (omega arith) (sym (mark .before .has-mark .ensures) ∙ not-false _ (mark .if3 .left)) (sym (half .before .half-at .ensures .0) ∙ half .if4 .left)
     (sym (c .before .has-count .ensures) ∙ not-true _ (c .if5 .taken))
 
--- src/lib.rt:25:1
 returns-6 : tie.Need-returns-6
 returns-6 c =
     let half = c .before .before in

@@ -1,15 +1,10 @@
+-- `index::walk_rows`: the rows of a part, one a turn. The invariant: what is left to do from here gives what was to be done from the start. Assumes nothing.
 use mathlib.Core.Path.{ap, _∙_}
+use native.Mathlib.Omega.{arith}
 use Rattle.paper.specs.Image.{rowLength}
 use Rattle.index.proofs.RowTurn.{RowsInv, rows-start, rows-step, rows-cut, rows-past, rows-done}
-use native.Mathlib.Omega.{arith}
-use borrow.Author.Needs.{needs}
 use Rattle.index.proofs.walk_rows.Statement.{statement}
 use Rattle.index.proofs.walk_rows.Tie as tie
-use Rattle.index.proofs.walk_rows.Reads as reads
-use Rattle.index.proofs.walk_rows.Lts as lts
-use Rattle.field.proofs.long_at.Reads as long-at-reads
-use Rattle.index.proofs.name_at.Reads as name-at-reads
-use Rattle.index.proofs.row_length.Reads as row-length-reads
 
 abbrev Inv-loop : tie.InvT-loop
 Inv-loop image offs₀ keys₀ first count at left₀ to₀ i₀ offs keys left to i = RowsInv image first count at offs₀ keys₀ offs keys left to i
@@ -17,105 +12,80 @@ Inv-loop image offs₀ keys₀ first count at left₀ to₀ i₀ offs keys left 
 abbrev μ-loop : tie.MeasureT-loop
 μ-loop image offs₀ keys₀ first count at left₀ to₀ i₀ offs keys left to i = left
 
--- src/lib.rt:99:5
 loop-holds : tie.Need-loop-holds Inv-loop μ-loop
 loop-holds c = rows-start (c .before .before .before .pre)
 
--- src/lib.rt:100:26
 add-if1 : tie.Need-add-if1 Inv-loop μ-loop
 add-if1 c = omega arith
 
--- src/lib.rt:101:13
 same-length : tie.Need-same-length Inv-loop μ-loop
 same-length c = c .before .before .loop .inv .same-offs
 
--- src/lib.rt:101:13
 same-length-2 : tie.Need-same-length-2 Inv-loop μ-loop
 same-length-2 c = c .before .before .loop .inv .same-keys
 
--- src/lib.rt:101:13
 returns : tie.Need-returns Inv-loop μ-loop
 returns c = rows-cut _ _ _ _ _ (c .before .before .loop .inv) (omega arith) (c .if1 .taken)
 
--- src/lib.rt:103:19
 cast-offs : tie.Need-cast-offs Inv-loop μ-loop
 cast-offs c = omega arith
 
--- src/lib.rt:103:9
 mul-offs : tie.Need-mul-offs Inv-loop μ-loop
 mul-offs c = omega arith
 
--- src/lib.rt:103:9
 slice-write-offs : tie.Need-slice-write-offs Inv-loop μ-loop
 slice-write-offs c = omega arith
 
--- src/lib.rt:104:19
 name-at-requires : tie.Need-name-at-requires Inv-loop μ-loop
 name-at-requires c κs = omega arith
 
--- src/lib.rt:104:9
 mul-keys : tie.Need-mul-keys Inv-loop μ-loop
 mul-keys c = omega arith
 
--- src/lib.rt:104:9
 slice-write-keys : tie.Need-slice-write-keys Inv-loop μ-loop
 slice-write-keys c = omega arith
 
--- src/lib.rt:105:52
 add-long-at : tie.Need-add-long-at Inv-loop μ-loop
 add-long-at c = omega arith
 
--- src/lib.rt:105:30
 long-at-requires : tie.Need-long-at-requires Inv-loop μ-loop
 long-at-requires c κs = omega arith
 
--- src/lib.rt:105:19
 row-length-requires : tie.Need-row-length-requires Inv-loop μ-loop
 row-length-requires c κs = omega arith
 
--- src/lib.rt:105:14
 add-to : tie.Need-add-to Inv-loop μ-loop
 add-to c = omega arith
 
--- src/lib.rt:106:13
 add-i : tie.Need-add-i Inv-loop μ-loop
 add-i c = omega arith
 
--- src/lib.rt:107:16
 sub-left : tie.Need-sub-left Inv-loop μ-loop
 sub-left c = omega arith
 
--- src/lib.rt:99:5
 loop-less : tie.Need-loop-less Inv-loop μ-loop
 loop-less c = omega arith
 
--- src/lib.rt:99:5
 loop-again : tie.Need-loop-again Inv-loop μ-loop
 loop-again c =
     rows-step _ _ _ _ _ _ _ (c .before .before .before .before .before .loop .inv) (omega arith) (omega arith)
     (c .row-length .ensures .0 ∙ ap rowLength (c .before .long-at .ensures)) (c .before .before .name-at .ensures)
 
--- src/lib.rt:110:9
 same-length-3 : tie.Need-same-length-3 Inv-loop μ-loop
 same-length-3 c = c .before .before .loop .inv .same-offs
 
--- src/lib.rt:110:9
 same-length-4 : tie.Need-same-length-4 Inv-loop μ-loop
 same-length-4 c = c .before .before .loop .inv .same-keys
 
--- src/lib.rt:110:9
 returns-2 : tie.Need-returns-2 Inv-loop μ-loop
 returns-2 c = rows-past _ _ _ _ _ (c .before .before .loop .inv) (c .if2 .taken)
 
--- src/lib.rt:92:1
 same-length-5 : tie.Need-same-length-5 Inv-loop μ-loop
 same-length-5 c = c .before .before .loop .inv .same-offs
 
--- src/lib.rt:92:1
 same-length-6 : tie.Need-same-length-6 Inv-loop μ-loop
 same-length-6 c = c .before .before .loop .inv .same-keys
 
--- src/lib.rt:92:1
 returns-3 : tie.Need-returns-3 Inv-loop μ-loop
 returns-3 c = rows-done _ _ _ _ _ (c .before .before .loop .inv) (c .before .loop-test .left) (c .if2 .left)
 
