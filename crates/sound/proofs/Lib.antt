@@ -3,3 +3,4 @@
 pub mod Loops
 pub mod Judging
 pub mod Answers
+pub mod Stages
