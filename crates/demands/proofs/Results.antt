@@ -1,4 +1,5 @@
--- What follows from the demands and is asked of a migrator: woken twice, empty lists, lists taken back, one answer only, wrong programs.
+-- What follows from the demands and is asked of a migrator: woken twice, empty lists, lists taken back, nothing lost, nothing summed twice, one
+-- answer only, wrong programs.
 pub mod Accepted
 pub mod Changes
 pub mod Lands
@@ -8,6 +9,8 @@ pub mod ReverseList
 pub mod Reverse
 pub mod Nothing
 pub mod Examples
+pub mod Sums
+pub mod Once
 pub mod EmptyPart
 pub mod Unique
 pub mod Programs

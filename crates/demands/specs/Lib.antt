@@ -2,3 +2,4 @@ pub mod History
 pub mod Reverse
 pub mod Programs
 pub mod WrongPrograms
+pub mod Sums
