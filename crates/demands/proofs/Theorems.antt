@@ -11,4 +11,3 @@ pub mod Histories
 pub mod Sentences
 pub mod Demand2
 pub mod Demand3
-pub mod Again
