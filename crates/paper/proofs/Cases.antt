@@ -9,6 +9,8 @@ use Rattle.paper.proofs.Table.{Cases, wrong, check, send, move, numbers
 
 abbrev pub cases : Cases
 cases =
+    let four = move A₅ (send 2 2 1) in
+    let five = move A₅ (send 0 5 1 ++ send 2 2 1) in
     -- 1: A is 544 bytes, 11 rows, and sound
     (length A ∷ check A, 544 ∷ 0 ∷ 2 ∷ 11 ∷ [])
     -- 2: A with triangle 2 sent to part 1 gives B: 712 bytes, 14 rows, 1 moved
@@ -18,15 +20,15 @@ cases =
     ∷ (numbers (move B (send 2 1 1)), 0 ∷ 544 ∷ 11 ∷ 1 ∷ [])
     ∷ (image (move B (send 2 1 1)), A-in-1)
     -- 4: A plus a lone vertex 5 in part 0, triangle 2 sent to 1: 760 bytes; vertices 2, 3 and edge 3 are owned by 1
-    ∷ (numbers (move A₅ (send 2 2 1)), 0 ∷ 760 ∷ 15 ∷ 1 ∷ [])
-    ∷ (lookup (image (move A₅ (send 2 2 1))) 0 2, 0 ∷ 3 ∷ 1 ∷ [])
-    ∷ (lookup (image (move A₅ (send 2 2 1))) 0 3, 0 ∷ 3 ∷ 1 ∷ [])
-    ∷ (lookup (image (move A₅ (send 2 2 1))) 1 3, 0 ∷ 3 ∷ 1 ∷ [])
+    ∷ (numbers four, 0 ∷ 760 ∷ 15 ∷ 1 ∷ [])
+    ∷ (lookup (image four) 0 2, 0 ∷ 3 ∷ 1 ∷ [])
+    ∷ (lookup (image four) 0 3, 0 ∷ 3 ∷ 1 ∷ [])
+    ∷ (lookup (image four) 1 3, 0 ∷ 3 ∷ 1 ∷ [])
     -- 5: as 4, vertex 5 sent to 1 as well: those are owned by 0
-    ∷ (numbers (move A₅ (send 0 5 1 ++ send 2 2 1)), 0 ∷ 760 ∷ 15 ∷ 2 ∷ [])
-    ∷ (lookup (image (move A₅ (send 0 5 1 ++ send 2 2 1))) 0 2, 0 ∷ 3 ∷ 0 ∷ [])
-    ∷ (lookup (image (move A₅ (send 0 5 1 ++ send 2 2 1))) 0 3, 0 ∷ 3 ∷ 0 ∷ [])
-    ∷ (lookup (image (move A₅ (send 0 5 1 ++ send 2 2 1))) 1 3, 0 ∷ 3 ∷ 0 ∷ [])
+    ∷ (numbers five, 0 ∷ 760 ∷ 15 ∷ 2 ∷ [])
+    ∷ (lookup (image five) 0 2, 0 ∷ 3 ∷ 0 ∷ [])
+    ∷ (lookup (image five) 0 3, 0 ∷ 3 ∷ 0 ∷ [])
+    ∷ (lookup (image five) 1 3, 0 ∷ 3 ∷ 0 ∷ [])
     -- 6: one part, no rows: 12 bytes, sound; 64 empty parts: 264 bytes
     ∷ (length (imageWith ([] ∷ [])) ∷ check (imageWith ([] ∷ [])), 12 ∷ 0 ∷ 1 ∷ 0 ∷ [])
     ∷ (length (imageWith (replicate 64 [])) ∷ check (imageWith (replicate 64 [])), 264 ∷ 0 ∷ 64 ∷ 0 ∷ [])

@@ -7,14 +7,12 @@ use mathlib.Core.List.{List, [], _∷_, _++_, map, append-assoc}
 use mathlib.Core.Option.{Option, none, some, Option·some-injective, Option·some-ne-none}
 use lib.ListN.{length, getD, take, drop, length-append, length-take, length-drop}
 use lib.Seq.{drop-cons, drop-at}
-use lib.Dec.{T, eqb, leb, le→leb, leb→le, eqb→eq}
+use lib.Dec.{T, leb, le→leb, leb→le}
 use lib.Pow.{areBytes}
-use Rattle.laws.specs.Lists.{flat, same}
-use Rattle.laws.proofs.Tests.{and-l, and-r, both}
+use Rattle.laws.specs.Lists.{flat}
 use Rattle.field.specs.Bytes.{u8At, u16At, u32At, u64At, bytesOf}
 use Rattle.field.proofs.Numbers.{u32-back, length-bytes}
-use Rattle.field.proofs.Reading.{bytes-drop, bytes-take, byte-lt, u32-lt, u32-forth, words-small}
-pub use Rattle.field.proofs.Reading.{u64-lt, length-words}
+use Rattle.field.proofs.Reading.{bytes-drop, bytes-take, byte-lt, u32-lt, u64-lt, u32-forth, length-words, words-small}
 use Rattle.paper.specs.Image.{Row, Set, noRow, remotes, rowLength, rowIn, consRow, consPart, walked, walkRows, walkParts, rowBytes, partBytes}
 use Rattle.paper.proofs.RowBack.{RowFits, rows-back, need-true}
 use Rattle.paper.proofs.RowForth.{need-inv, rows-forth}
@@ -129,19 +127,6 @@ parts-back (rows ∷ S) f few =
     ∙ ap (consPart rows) (parts-back S (λ p s h. f (suc p) s h) (λ p. few (suc p)))
 
 -- ---- the head of an image
-
-pub same-eq : (xs ys : List ℕ) → T (same xs ys) → xs ≡ ys
-unfolding same
-same-eq [] [] t = refl
-same-eq [] (y ∷ ys) t = absurd t
-same-eq (x ∷ xs) [] t = absurd t
-same-eq (x ∷ xs) (y ∷ ys) t =
-    ap₂ {C = List ℕ} (λ (a : ℕ) (l : List ℕ). a ∷ l) (eqb→eq x y (and-l (eqb x y) (same xs ys) t)) (same-eq xs ys (and-r (eqb x y) (same xs ys) t))
-
-pub same-refl : (xs : List ℕ) → T (same xs xs)
-unfolding same
-same-refl [] = tt
-same-refl (x ∷ xs) = both (eqb x x) (same xs xs) (lib.Dec.eqb-refl x) (same-refl xs)
 
 -- the first three bytes, and five after them
 eight-front : (b : List ℕ) → 8 ≤ length b → b ≡ take 3 b ++ (u8At b 3 ∷ u8At b 4 ∷ u8At b 5 ∷ u8At b 6 ∷ u8At b 7 ∷ drop 8 b)

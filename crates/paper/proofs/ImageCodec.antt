@@ -10,6 +10,7 @@ use lib.ListN.{length, getD, take, drop, length-append}
 use lib.Dec.{T, eqb, ltb, leb, le→leb, lt→ltb, eqb→eq, leb→le}
 use lib.Pow.{areBytes}
 use Rattle.laws.specs.Lists.{flat, same}
+use Rattle.laws.proofs.Same.{same-eq}
 use Rattle.laws.proofs.Tests.{split3, join3}
 use Rattle.field.specs.Bytes.{u8At, u16At, bytesOf}
 use Rattle.field.proofs.Reading.{bytes-drop}
@@ -18,7 +19,7 @@ use Rattle.paper.specs.Image.{Row, Set, noRow, walkParts, rowBytes, part
 use Rattle.paper.specs.Sound.{fieldsFit, ordered, boundaryStands, copiesAgree, residesWell, ownedWell, rowsMust, soundOf}
 use Rattle.paper.proofs.Outcomes.{then-inv, must-inv, not-refused, accepted-inj}
 use Rattle.paper.proofs.RowBack.{RowFits}
-use Rattle.paper.proofs.Codec.{parts-walk, parts-back, same-eq, head-is}
+use Rattle.paper.proofs.Codec.{parts-walk, parts-back, head-is}
 
 -- ---- decoding: the refusals 1 to 6
 

@@ -1,15 +1,14 @@
 -- Each answer's enum says one thing of document 01: two answers that mean the same are the same, so a contract that is an equation with
 -- one of specs/Answers.antt leaves no second answer; and two values are the same exactly where their kinds and their bits are.
 -- Assumes nothing.
-use Prim.Native.Nat.{ℕ, zero, suc, _/_, _%_, _^_, _<_, _≤_}
+use Prim.Native.Nat.{ℕ, zero, suc, _^_, _<_, _≤_}
 use native.Mathlib.Omega.{arith}
 use mathlib.Core.Path.{_≡_, refl, sym, ap, _∙_}
-use mathlib.Core.Bool.{true, false, _&&_}
+use mathlib.Core.Bool.{true, _&&_}
 use lib.Dec.{T, eqb, eqb→eq}
-use lib.Pow.{field}
-use lib.Ieee.{binary64, nanBits, ofBits, toBits}
-use lib.Ieee.Bits.{toBits-ofBits, nanBits-is}
-use borrow.Author.Tests.{eqb-false, eq-eqb, ne-eqb, not-true}
+use lib.Ieee.{binary64, ofBits, toBits}
+use lib.Ieee.Bits.{toBits-ofBits}
+use borrow.Author.Tests.{eq-eqb, ne-eqb}
 use Rattle.paper.specs.declared.Value.the-variants as value
 use Rattle.paper.specs.declared.Refusal.{Refusal}
 use Rattle.paper.specs.declared.CheckAnswer.{CheckAnswer}
@@ -26,6 +25,7 @@ use Rattle.paper.specs.Answers.{placeOf, valueOf, sameValue, checkAnswer
 use Rattle.paper.proofs.Outcomes.{accepted-inj}
 use Rattle.laws.proofs.Tests.{T-true}
 use Rattle.field.specs.Bytes.{finite}
+use Rattle.field.proofs.Finite.{finite-plain}
 
 -- ---- the answers
 
@@ -73,16 +73,9 @@ box-one (box.Around b) (box.Around c) e = cc
 
 -- ---- values
 
--- a finite pattern is no NaN's
-pub finite-no-nan : (b : ℕ) → finite b ≡ true → nanBits binary64 b ≡ false
-unfolding nanBits
-finite-no-nan b h =
-    let n = eqb-false (b / 4503599627370496 % 2048) 2047 (not-true _ h) in
-    rw (ne-eqb (b % 9223372036854775808 / 4503599627370496) 2047 (λ e. n (sym (field b 11 52) ∙ e)))
-
--- so it comes back from its float
-pub finite-bits : (b : ℕ) → b < 2 ^ 64 → finite b ≡ true → toBits binary64 (ofBits binary64 b) ≡ b
-finite-bits b small h = toBits-ofBits binary64 b small (rw (← nanBits-is binary64 b, finite-no-nan b h) tt)
+-- the bits of a finite real come back from its float
+finite-bits : (b : ℕ) → b < 2 ^ 64 → finite b ≡ true → toBits binary64 (ofBits binary64 b) ≡ b
+finite-bits b small h = toBits-ofBits binary64 b small (finite-plain b h)
 
 -- of values that pass 7, the same are those with equal kinds and equal bits
 pub value-same : (k v j w : ℕ) → k ≤ 2 → j ≤ 2 → v < 2 ^ 64 → w < 2 ^ 64 → T (valueFits k v) → T (valueFits j w)

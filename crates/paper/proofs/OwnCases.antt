@@ -228,7 +228,7 @@ orders =
     -- 5, 6: any 32-bit number, unsigned
     ∷ (check (imageWith ((vertex 0 0 0 0 ∷ v1 ∷ vertex 0xffff_ffff 0 0 0 ∷ []) ∷ [])), 0 ∷ 1 ∷ 3 ∷ [])
     ∷ (check (imageWith ((vertex 0x8000_0000 0 0 0 ∷ v1 ∷ []) ∷ [])), 8 ∷ 0 ∷ 1 ∷ [])
-    -- 7: in each part by itself
+    -- 7, 8: in each part by itself
     ∷ (check (imageWith ((v3 ∷ []) ∷ (v2 ∷ v1 ∷ []) ∷ [])), 8 ∷ 1 ∷ 1 ∷ [])
     ∷ (check (imageWith ((v3 ∷ []) ∷ (v1 ∷ v2 ∷ []) ∷ [])), 0 ∷ 2 ∷ 3 ∷ [])
     -- 9: 8 before 9: the edge in slot 2 names one vertex twice
@@ -324,13 +324,13 @@ copies-hold = refl
 
 abbrev pub residences : Cases
 residences =
-    -- 0: an object resides in one part: a vertex, an edge
+    -- 0, 1: an object resides in one part: a vertex, an edge
     (check (twin v1 v1), 11 ∷ 0 ∷ 0 ∷ [])
     ∷ (check (imageWith ((v1 ∷ v2 ∷ e1 ∷ []) ∷ (v1 ∷ v2 ∷ e1 ∷ []) ∷ [])), 11 ∷ 0 ∷ 2 ∷ [])
-    -- 2: any other entity resides in the union: vertex 2 is in part 1, and what it bounds is not
+    -- 2, 3: any other entity resides in the union: vertex 2 is in part 1, and what it bounds is not
     ∷ (check (imageWith ((v1 ∷ v2 ∷ e1 ∷ []) ∷ (v2 ∷ []) ∷ [])), 11 ∷ 0 ∷ 1 ∷ [])
     ∷ (check (imageWith ((v2 ∷ []) ∷ (v1 ∷ v2 ∷ e1 ∷ []) ∷ [])), 11 ∷ 0 ∷ 0 ∷ [])
-    -- 4: what it bounds is looked for over all parts: the edges that meet in vertex 1 are in three
+    -- 4, 5: what it bounds is looked for over all parts: the edges that meet in vertex 1 are in three
     ∷ (check (star [] []), 0 ∷ 3 ∷ 9 ∷ [])
     ∷ (lookup (star [] []) 0 1, 0 ∷ 7 ∷ 0 ∷ [])
     -- 6: 11 before 12: vertex 1 has a wrong owner
@@ -368,6 +368,7 @@ owners-hold = refl
 
 abbrev pub many : Cases
 many =
+    -- 0, 1: the set is bit 63
     (check far, 0 ∷ 64 ∷ 1 ∷ [])
     ∷ (lookup far 0 1, 0 ∷ 9223372036854775808 ∷ 63 ∷ [])
     -- 2, 3: the row stands at 264: bit 62 for bit 63, and owner 64

@@ -54,11 +54,11 @@ turns =
     -- 4, 5: edge 1 and triangle 1 are two entities; 15 before 16
     ∷ (numbers (move kit (send 2 1 0)), 15 ∷ 0 ∷ 0 ∷ [])
     ∷ (numbers (move kit (send 0 1 0 ++ send 0 4 0)), 15 ∷ 1 ∷ 0 ∷ [])
-    -- 6, 7: vertex 2 bounds edge 1; 16 before 17
+    -- 6 to 8: vertex 2 bounds edge 1; 16 before 17
     ∷ (numbers (move kit (send 0 2 1)), 16 ∷ 0 ∷ 0 ∷ [])
     ∷ (numbers (migrateOf kit (send 0 5 1 ++ send 1 1 1) 208 4), 0 ∷ 208 ∷ 4 ∷ 2 ∷ [])
     ∷ (numbers (migrateOf kit (send 0 2 1) 0 0), 16 ∷ 0 ∷ 0 ∷ [])
-    -- 9: 17 before 19
+    -- 9, 10: 17 before 19
     ∷ (numbers (migrateOf kit (send 0 5 1) 0 3), 17 ∷ 0 ∷ 0 ∷ [])
     ∷ (numbers (migrateOf kit (send 0 5 1) 207 4), 19 ∷ 0 ∷ 0 ∷ [])
     -- 11 to 13: also with an empty list

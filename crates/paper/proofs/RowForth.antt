@@ -11,8 +11,7 @@ use lib.Dec.{T, leb, leb→le}
 use lib.Pow.{areBytes}
 use Rattle.laws.specs.Lists.{flat, need}
 use Rattle.field.specs.Bytes.{u8At, u32At, u64At, words, bytesOf}
-use Rattle.field.proofs.Reading.{u64-drop, u32-forth}
-pub use Rattle.field.proofs.Reading.{bytes-drop, u64-forth, words-forth}
+use Rattle.field.proofs.Reading.{u64-drop, bytes-drop, u32-forth, u64-forth, words-forth}
 use Rattle.paper.specs.Image.{Row, remotes, rowLength, rowIn, consRow, walkRows, rowBytes}
 
 -- ---- a row

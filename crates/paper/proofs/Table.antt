@@ -1,5 +1,6 @@
 -- What the tables of cases ask of the definitions. Every answer is a list of numbers: 0 and the result numbers, or a refusal's number and
--- place. A table is right where no case of it is wrong, so that a theorem that fails names its case. Assumes nothing.
+-- place. A table is right where no case of it is wrong. Where it fails and is too long for antt to print which case, halve it by `take`.
+-- Assumes nothing.
 use Prim.Native.Nat.{ℕ, suc}
 use Prim.Native.Char.{code}
 use Prim.Native.String as string
