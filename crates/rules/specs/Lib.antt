@@ -1,2 +1,5 @@
 pub mod Judged
 pub mod Tables
+pub mod Copies
+pub mod Marks
+pub mod Owners

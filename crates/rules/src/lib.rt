@@ -1,6 +1,10 @@
 // The judgements of a row, one for each of the refusals 7 to 12, a module for each.
+pub mod copies;
+pub mod covered;
 pub mod fields;
 pub mod order;
+pub mod owner;
+pub mod residence;
 pub mod rows;
 
 // The rules in the order of the refusals 7 to 12. Twins is the half of Copies that looks only at the copies that a row names.

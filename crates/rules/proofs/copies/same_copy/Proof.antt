@@ -1,0 +1,80 @@
+-- `rules::copies::same_copy` meets its contract: the name first, so that the boundaries have one dimension; then the fields and the shape. Assumes nothing.
+use native.Mathlib.Omega.{arith}
+use borrow.Author.Tests.{not-true, not-false}
+use Rattle.rules.proofs.copies.Placed.{Stands, offset-asked, stands, room-48}
+use Rattle.rules.proofs.copies.Shapes.{shape-there, other-name, other-fields, dim-here, dim-there, copy-shapes}
+use Rattle.rules.proofs.copies.same_copy.Statement.{statement}
+use Rattle.rules.proofs.copies.same_copy.Tie as tie
+
+-- where the two rows stand
+from : (c : tie.After-offset-of2) → let start = c .before .before .before .before .before .before in
+    Stands (start .args .image .now) (start .args .part .0) (start .args .slot .0) (c .before .offset-of .result)
+from c = let start = c .before .before .before .before .before .before in stands (start .pre .0) (start .args .part .0) (start .args .slot .0) _ (start .pre .1 .0) (c .before .offset-of .ensures)
+
+at : (c : tie.After-offset-of2) → let start = c .before .before .before .before .before .before in
+    Stands (start .args .image .now) (start .args .other .0) (start .args .to .0) (c .offset-of2 .result)
+at c = let start = c .before .before .before .before .before .before in stands (start .pre .0) (start .args .other .0) (start .args .to .0) _ (start .pre .1 .1) (c .offset-of2 .ensures)
+
+offset-of-requires : tie.Need-offset-of-requires
+offset-of-requires c κs = let start = c .before .before .before .before in
+    offset-asked (start .pre .0) (start .args .part .0) (start .args .slot .0) (start .pre .1 .0)
+
+offset-of-requires-2 : tie.Need-offset-of-requires-2
+offset-of-requires-2 c κs = let start = c .before .before .before .before .before in
+    offset-asked (start .pre .0) (start .args .other .0) (start .args .to .0) (start .pre .1 .1)
+
+same-name-requires : tie.Need-same-name-requires
+same-name-requires c κs = (room-48 (c .before .before .before .before .before .before .pre .0) (from c), room-48 (c .before .before .before .before .before .before .pre .0) (at c))
+
+returns : tie.Need-returns
+returns c = other-name (c .before .before .before .before .before .before .before .before .pre .0) (from (c .before .before)) (at (c .before .before)) _ (c .before .same-name .ensures) (not-true _ (c .if1 .taken))
+
+same-fields-requires : tie.Need-same-fields-requires
+same-fields-requires c κs = (room-48 (c .before .before .before .before .before .before .before .before .pre .0) (from (c .before .before)), room-48 (c .before .before .before .before .before .before .before .before .pre .0) (at (c .before .before)))
+
+returns-2 : tie.Need-returns-2
+returns-2 c = other-fields (c .before .before .before .before .before .before .before .before .before .before .pre .0) (from (c .before .before .before .before)) (at (c .before .before .before .before)) _ _
+    (c .before .before .before .same-name .ensures) (c .before .same-fields .ensures) (not-false _ (c .before .before .if1 .left)) (not-true _ (c .if2 .taken))
+
+first-row-requires : tie.Need-first-row-requires
+first-row-requires c κs = let start = c .before .before .before .before .before .before .before .before .before .before in
+    offset-asked (start .pre .0) (start .args .part .0) (start .args .slot .0) (start .pre .1 .0) .0
+
+first-row-requires-2 : tie.Need-first-row-requires-2
+first-row-requires-2 c κs = let start = c .before .before .before .before .before .before .before .before .before .before .before in
+    offset-asked (start .pre .0) (start .args .other .0) (start .args .to .0) (start .pre .1 .1) .0
+
+add-byte-at : tie.Need-add-byte-at
+add-byte-at c = omega (arith, room-48 (c .before .before .before .before .before .before .before .before .before .before .before .before .pre .0) (from (c .before .before .before .before .before .before)))
+
+byte-at-requires : tie.Need-byte-at-requires
+byte-at-requires c κs = omega (arith, room-48 (c .before .before .before .before .before .before .before .before .before .before .before .before .pre .0) (from (c .before .before .before .before .before .before)))
+
+same-shape-requires : tie.Need-same-shape-requires
+same-shape-requires c κs = let ready = c .before .before .before .before .before .before .before .before .before .before .before .before .before .pre .0 in
+    let name = c .before .before .before .before .before .before .same-name .ensures in
+    let yes = not-false _ (c .before .before .before .before .before .if1 .left) in (
+      shape-there ready (from (c .before .before .before .before .before .before .before)) _ _ (c .before .before .first-row .ensures) (dim-here ready (from (c .before .before .before .before .before .before .before)) (at (c .before .before .before .before .before .before .before)) _ name yes (c .byte-at .ensures .0)),
+      shape-there ready (at (c .before .before .before .before .before .before .before)) _ _ (c .before .first-row2 .ensures) (dim-there ready (from (c .before .before .before .before .before .before .before)) (at (c .before .before .before .before .before .before .before)) _ name yes (c .byte-at .ensures .0)),
+    )
+
+returns-3 : tie.Need-returns-3
+returns-3 c = copy-shapes (c .before .before .before .before .before .before .before .before .before .before .before .before .before .before .pre .0) (from (c .before .before .before .before .before .before .before .before)) (at (c .before .before .before .before .before .before .before .before)) _ (c .before .before .before .before .before .before .before .same-name .ensures) (not-false _ (c .before .before .before .before .before .before .if1 .left)) (c .before .byte-at .ensures .0) _ _
+    (c .before .before .before .before .before .same-fields .ensures) (not-false _ (c .before .before .before .before .if2 .left)) (c .before .before .before .first-row .ensures) (c .before .before .first-row2 .ensures) (c .same-shape .ensures)
+
+pub same-copy-spec : {M : Type 1} → statement M
+same-copy-spec =
+    tie.close
+    (tie.spec
+    offset-of-requires
+    offset-of-requires-2
+    same-name-requires
+    returns
+    same-fields-requires
+    returns-2
+    first-row-requires
+    first-row-requires-2
+    add-byte-at
+    byte-at-requires
+    same-shape-requires
+    returns-3)

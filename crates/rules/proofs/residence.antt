@@ -1,0 +1,3 @@
+pub mod Copied
+pub mod Names
+pub mod Laws
