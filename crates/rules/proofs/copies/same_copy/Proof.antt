@@ -16,50 +16,77 @@ at : (c : tie.After-offset-of2) → let start = c .before .before .before .befor
 at c = let start = c .before .before .before .before .before .before in stands (start .pre .0) (start .args .other .0) (start .args .to .0) _ (start .pre .1 .1) (c .offset-of2 .ensures)
 
 offset-of-requires : tie.Need-offset-of-requires
-offset-of-requires c κs = let start = c .before .before .before .before in
+offset-of-requires c κs =
+    let start = c .before .before .before .before in
     offset-asked (start .pre .0) (start .args .part .0) (start .args .slot .0) (start .pre .1 .0)
 
 offset-of-requires-2 : tie.Need-offset-of-requires-2
-offset-of-requires-2 c κs = let start = c .before .before .before .before .before in
+offset-of-requires-2 c κs =
+    let start = c .before .before .before .before .before in
     offset-asked (start .pre .0) (start .args .other .0) (start .args .to .0) (start .pre .1 .1)
 
 same-name-requires : tie.Need-same-name-requires
-same-name-requires c κs = (room-48 (c .before .before .before .before .before .before .pre .0) (from c), room-48 (c .before .before .before .before .before .before .pre .0) (at c))
+same-name-requires c κs =
+    let rows = c in
+    let start = rows .before .before .before .before .before .before in
+    (room-48 (start .pre .0) (from rows), room-48 (start .pre .0) (at rows))
 
 returns : tie.Need-returns
-returns c = other-name (c .before .before .before .before .before .before .before .before .pre .0) (from (c .before .before)) (at (c .before .before)) _ (c .before .same-name .ensures) (not-true _ (c .if1 .taken))
+returns c =
+    let rows = c .before .before in
+    let start = rows .before .before .before .before .before .before in
+    other-name (start .pre .0) (from rows) (at rows) _ (c .before .same-name .ensures) (not-true _ (c .if1 .taken))
 
 same-fields-requires : tie.Need-same-fields-requires
-same-fields-requires c κs = (room-48 (c .before .before .before .before .before .before .before .before .pre .0) (from (c .before .before)), room-48 (c .before .before .before .before .before .before .before .before .pre .0) (at (c .before .before)))
+same-fields-requires c κs =
+    let rows = c .before .before in
+    let start = rows .before .before .before .before .before .before in
+    (room-48 (start .pre .0) (from rows), room-48 (start .pre .0) (at rows))
 
 returns-2 : tie.Need-returns-2
-returns-2 c = other-fields (c .before .before .before .before .before .before .before .before .before .before .pre .0) (from (c .before .before .before .before)) (at (c .before .before .before .before)) _ _
-    (c .before .before .before .same-name .ensures) (c .before .same-fields .ensures) (not-false _ (c .before .before .if1 .left)) (not-true _ (c .if2 .taken))
+returns-2 c =
+    let rows = c .before .before .before .before in
+    let start = rows .before .before .before .before .before .before in
+    other-fields (start .pre .0) (from rows) (at rows) _ _ (c .before .before .before .same-name .ensures) (c .before .same-fields .ensures) (not-false _ (c .before .before .if1 .left)) (not-true _ (c .if2 .taken))
 
 first-row-requires : tie.Need-first-row-requires
-first-row-requires c κs = let start = c .before .before .before .before .before .before .before .before .before .before in
+first-row-requires c κs =
+    let start = c .before .before .before .before .before .before .before .before .before .before in
     offset-asked (start .pre .0) (start .args .part .0) (start .args .slot .0) (start .pre .1 .0) .0
 
 first-row-requires-2 : tie.Need-first-row-requires-2
-first-row-requires-2 c κs = let start = c .before .before .before .before .before .before .before .before .before .before .before in
+first-row-requires-2 c κs =
+    let start = c .before .before .before .before .before .before .before .before .before .before .before in
     offset-asked (start .pre .0) (start .args .other .0) (start .args .to .0) (start .pre .1 .1) .0
 
 add-byte-at : tie.Need-add-byte-at
-add-byte-at c = omega (arith, room-48 (c .before .before .before .before .before .before .before .before .before .before .before .before .pre .0) (from (c .before .before .before .before .before .before)))
+add-byte-at c =
+    let rows = c .before .before .before .before .before .before in
+    let start = rows .before .before .before .before .before .before in
+    omega (arith, room-48 (start .pre .0) (from rows))
 
 byte-at-requires : tie.Need-byte-at-requires
-byte-at-requires c κs = omega (arith, room-48 (c .before .before .before .before .before .before .before .before .before .before .before .before .pre .0) (from (c .before .before .before .before .before .before)))
+byte-at-requires c κs =
+    let rows = c .before .before .before .before .before .before in
+    let start = rows .before .before .before .before .before .before in
+    omega (arith, room-48 (start .pre .0) (from rows))
 
 same-shape-requires : tie.Need-same-shape-requires
-same-shape-requires c κs = let ready = c .before .before .before .before .before .before .before .before .before .before .before .before .before .pre .0 in
+same-shape-requires c κs =
+    let rows = c .before .before .before .before .before .before .before in
+    let start = rows .before .before .before .before .before .before in
     let name = c .before .before .before .before .before .before .same-name .ensures in
-    let yes = not-false _ (c .before .before .before .before .before .if1 .left) in (
-      shape-there ready (from (c .before .before .before .before .before .before .before)) _ _ (c .before .before .first-row .ensures) (dim-here ready (from (c .before .before .before .before .before .before .before)) (at (c .before .before .before .before .before .before .before)) _ name yes (c .byte-at .ensures .0)),
-      shape-there ready (at (c .before .before .before .before .before .before .before)) _ _ (c .before .first-row2 .ensures) (dim-there ready (from (c .before .before .before .before .before .before .before)) (at (c .before .before .before .before .before .before .before)) _ name yes (c .byte-at .ensures .0)),
+    let yes = not-false _ (c .before .before .before .before .before .if1 .left) in
+    let dim = c .byte-at .ensures .0 in (
+      shape-there (start .pre .0) (from rows) _ _ (c .before .before .first-row .ensures) (dim-here (start .pre .0) (from rows) (at rows) _ name yes dim),
+      shape-there (start .pre .0) (at rows) _ _ (c .before .first-row2 .ensures) (dim-there (start .pre .0) (from rows) (at rows) _ name yes dim),
     )
 
 returns-3 : tie.Need-returns-3
-returns-3 c = copy-shapes (c .before .before .before .before .before .before .before .before .before .before .before .before .before .before .pre .0) (from (c .before .before .before .before .before .before .before .before)) (at (c .before .before .before .before .before .before .before .before)) _ (c .before .before .before .before .before .before .before .same-name .ensures) (not-false _ (c .before .before .before .before .before .before .if1 .left)) (c .before .byte-at .ensures .0) _ _
+returns-3 c =
+    let rows = c .before .before .before .before .before .before .before .before in
+    let start = rows .before .before .before .before .before .before in
+    copy-shapes (start .pre .0) (from rows) (at rows) _ (c .before .before .before .before .before .before .before .same-name .ensures) (not-false _ (c .before .before .before .before .before .before .if1 .left)) (c .before .byte-at .ensures .0) _ _
     (c .before .before .before .before .before .same-fields .ensures) (not-false _ (c .before .before .before .before .if2 .left)) (c .before .before .before .first-row .ensures) (c .before .before .first-row2 .ensures) (c .same-shape .ensures)
 
 pub same-copy-spec : {M : Type 1} → statement M

@@ -38,7 +38,9 @@ cast-face : tie.Need-cast-face Inv-loop μ-loop
 cast-face c = search needs
 
 add-face : tie.Need-add-face Inv-loop μ-loop
-add-face c = omega (arith, c .before .before .before .before .before .pre .1 .0 .faces (c .before .before .loop .i) (c .before .before .before .before .before .pre .0) (omega arith))
+add-face c =
+    let start = c .before .before .before .before .before in
+    omega (arith, start .pre .1 .0 .faces (c .before .before .loop .i) (start .pre .0) (omega arith))
 
 add-word-at-3 : tie.Need-add-word-at-3 Inv-loop μ-loop
 add-word-at-3 c = omega (arith, c .before .before .before .before .before .pre .1 .1 .room)
@@ -56,23 +58,33 @@ cast-mate : tie.Need-cast-mate Inv-loop μ-loop
 cast-mate c = search needs
 
 add-mate : tie.Need-add-mate Inv-loop μ-loop
-add-mate c = omega (arith, c .before .before .before .before .before .before .pre .1 .1 .faces (c .before .before .before .loop .i) (c .before .before .before .before .before .before .pre .0) (omega arith))
+add-mate c =
+    let start = c .before .before .before .before .before .before in
+    omega (arith, start .pre .1 .1 .faces (c .before .before .before .loop .i) (start .pre .0) (omega arith))
 
 mul-if1 : tie.Need-mul-if1 Inv-loop μ-loop
-mul-if1 c = let a = c .before .before .before .before .before .before .args in
-    let h : a .here + c .before .word-at .result < length (a .keys .now) = omega (arith, c .before .before .before .before .before .before .pre .1 .0 .faces (c .before .before .before .loop .i) (c .before .before .before .before .before .before .pre .0) (omega arith)) in
+mul-if1 c =
+    let start = c .before .before .before .before .before .before in
+    let a = start .args in
+    let h : a .here + c .before .word-at .result < length (a .keys .now) = omega (arith, start .pre .1 .0 .faces (c .before .before .before .loop .i) (start .pre .0) (omega arith)) in
     search needs
 
 shared-slice-read-if1 : tie.Need-shared-slice-read-if1 Inv-loop μ-loop
-shared-slice-read-if1 c = omega (arith, c .before .before .before .before .before .before .before .pre .1 .0 .faces (c .before .before .before .before .loop .i) (c .before .before .before .before .before .before .before .pre .0) (omega arith))
+shared-slice-read-if1 c =
+    let start = c .before .before .before .before .before .before .before in
+    omega (arith, start .pre .1 .0 .faces (c .before .before .before .before .loop .i) (start .pre .0) (omega arith))
 
 mul-if1-2 : tie.Need-mul-if1-2 Inv-loop μ-loop
-mul-if1-2 c = let a = c .before .before .before .before .before .before .before .args in
-    let h : a .there + c .before .word-at2 .result < length (a .keys .now) = omega (arith, c .before .before .before .before .before .before .before .pre .1 .1 .faces (c .before .before .before .before .loop .i) (c .before .before .before .before .before .before .before .pre .0) (omega arith)) in
+mul-if1-2 c =
+    let start = c .before .before .before .before .before .before .before in
+    let a = start .args in
+    let h : a .there + c .before .word-at2 .result < length (a .keys .now) = omega (arith, start .pre .1 .1 .faces (c .before .before .before .before .loop .i) (start .pre .0) (omega arith)) in
     search needs
 
 shared-slice-read-if1-2 : tie.Need-shared-slice-read-if1-2 Inv-loop μ-loop
-shared-slice-read-if1-2 c = omega (arith, c .before .before .before .before .before .before .before .before .pre .1 .1 .faces (c .before .before .before .before .before .loop .i) (c .before .before .before .before .before .before .before .before .pre .0) (omega arith))
+shared-slice-read-if1-2 c =
+    let start = c .before .before .before .before .before .before .before .before in
+    omega (arith, start .pre .1 .1 .faces (c .before .before .before .before .before .loop .i) (start .pre .0) (omega arith))
 
 returns : tie.Need-returns Inv-loop μ-loop
 unfolding facesAgree

@@ -53,9 +53,11 @@ byte-at-requires-4 : tie.Need-byte-at-requires-4
 byte-at-requires-4 c κs = search needs
 
 returns : tie.Need-returns
-returns c = let a = c .before .before .before .before .before .before .before .before .before .args in
+returns c =
+    let a = c .before .before .before .before .before .before .before .before .before .args in
     fields-compared (a .image .now) (a .at) (a .to) (c .before .before .before .before .before .before .before .byte-at .ensures .0) (c .before .before .before .before .before .before .byte-at2 .ensures .0)
-    (c .before .before .before .before .before .long-at .ensures) (c .before .before .before .before .long-at2 .ensures) (c .before .before .before .long-at3 .ensures) (c .before .before .long-at4 .ensures) (c .before .byte-at3 .ensures .0) (c .byte-at4 .ensures .0)
+    (c .before .before .before .before .before .long-at .ensures) (c .before .before .before .before .long-at2 .ensures)
+    (c .before .before .before .long-at3 .ensures) (c .before .before .long-at4 .ensures) (c .before .byte-at3 .ensures .0) (c .byte-at4 .ensures .0)
 
 pub same-fields-spec : {M : Type 1} → statement M
 same-fields-spec =

@@ -24,7 +24,8 @@ byte-at-requires-2 : tie.Need-byte-at-requires-2
 byte-at-requires-2 c κs = search needs
 
 returns : tie.Need-returns
-returns c = let a = c .before .before .before .before .before .args in
+returns c =
+    let a = c .before .before .before .before .before .args in
     name-read (a .image .now) (a .at) (a .to) (c .before .before .before .word-at .ensures) (c .before .before .byte-at .ensures .0) (c .before .word-at2 .ensures) (c .byte-at2 .ensures .0) (omega arith) (omega arith)
 
 pub same-name-spec : {M : Type 1} → statement M

@@ -41,8 +41,10 @@ long-at-requires-6 : tie.Need-long-at-requires-6
 long-at-requires-6 c κs = search needs
 
 returns : tie.Need-returns
-returns c = let a = c .before .before .before .before .before .before .before .args in
-    points-compared (a .image .now) (a .at) (a .to) (c .before .before .before .before .before .long-at .ensures) (c .before .before .before .before .long-at2 .ensures) (c .before .before .before .long-at3 .ensures) (c .before .before .long-at4 .ensures) (c .before .long-at5 .ensures) (c .long-at6 .ensures)
+returns c =
+    let a = c .before .before .before .before .before .before .before .args in
+    points-compared (a .image .now) (a .at) (a .to) (c .before .before .before .before .before .long-at .ensures) (c .before .before .before .before .long-at2 .ensures)
+    (c .before .before .before .long-at3 .ensures) (c .before .before .long-at4 .ensures) (c .before .long-at5 .ensures) (c .long-at6 .ensures)
 
 pub same-point-spec : {M : Type 1} → statement M
 same-point-spec =

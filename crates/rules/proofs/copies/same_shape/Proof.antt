@@ -10,7 +10,8 @@ same-point-requires : tie.Need-same-point-requires
 same-point-requires c κs = search needs
 
 returns : tie.Need-returns
-returns c = let a = c .before .before .before .before .args in
+returns c =
+    let a = c .before .before .before .before .args in
     c .same-point .ensures
     ∙ shapes-points (a .image .now) (a .keys .now) (a .here) (a .at) (a .there) (a .to) (a .dim) (c .before .if1 .taken)
 
@@ -18,7 +19,8 @@ same-faces-requires : tie.Need-same-faces-requires
 same-faces-requires c κs = search needs
 
 returns-2 : tie.Need-returns-2
-returns-2 c = let a = c .before .before .before .before .args in
+returns-2 c =
+    let a = c .before .before .before .before .args in
     c .same-faces .ensures
     ∙ sym (shapes-faces (a .image .now) (a .keys .now) (a .here) (a .at) (a .there) (a .to) (a .dim) (omega arith))
 

@@ -6,45 +6,59 @@ use Rattle.rules.proofs.copies.twin.Statement.{statement}
 use Rattle.rules.proofs.copies.twin.Tie as tie
 
 offset-of-requires : tie.Need-offset-of-requires
-offset-of-requires c κs = let start = c .before .before .before .before in
+offset-of-requires c κs =
+    let start = c .before .before .before .before in
     offset-asked (start .pre .0) (start .args .part .0) (start .args .slot .0) (start .pre .1 .there)
 
 remote-slot-requires : tie.Need-remote-slot-requires
-remote-slot-requires c κs = remote-asked (c .before .before .before .before .before .pre .0) (c .before .before .before .before .before .pre .1) (c .offset-of .ensures)
+remote-slot-requires c κs =
+    let start = c .before .before .before .before .before in
+    remote-asked (start .pre .0) (start .pre .1) (c .offset-of .ensures)
 
 rows-in-requires : tie.Need-rows-in-requires
-rows-in-requires c κs = rows-asked (c .before .before .before .before .before .before .pre .0) (c .before .before .before .before .before .before .pre .1) (c .before .offset-of .ensures)
+rows-in-requires c κs =
+    let start = c .before .before .before .before .before .before in
+    rows-asked (start .pre .0) (start .pre .1) (c .before .offset-of .ensures)
 
 returns : tie.Need-returns
-returns c = twin-far (c .before .before .before .before .before .before .before .before .before .pre .0) (c .before .before .before .before .before .before .before .before .before .pre .1) (c .before .before .before .before .offset-of .ensures)
-    (c .before .before .before .remote-slot .ensures) (c .before .before .rows-in .ensures) (c .if1 .taken)
+returns c =
+    let rows = c .before .before in
+    let start = rows .before .before .before .before .before .before .before in
+    twin-far (start .pre .0) (start .pre .1) (rows .before .before .offset-of .ensures) (rows .before .remote-slot .ensures) (rows .rows-in .ensures) (c .if1 .taken)
 
 same-copy-requires : tie.Need-same-copy-requires
-same-copy-requires c κs = (
-  c .before .before .before .before .before .before .before .before .before .pre .0,
-  (
-    c .before .before .before .before .before .before .before .before .before .pre .1 .there,
-    twin-there (c .before .before .before .before .before .before .before .before .before .pre .0) (c .before .before .before .before .before .before .before .before .before .pre .1) (c .before .before .before .before .offset-of .ensures)
-        (c .before .before .before .remote-slot .ensures) (c .before .before .rows-in .ensures) (c .if1 .left),
-  ),
-)
+same-copy-requires c κs =
+    let rows = c .before .before in
+    let start = rows .before .before .before .before .before .before .before in
+    (start .pre .0, (start .pre .1 .there, twin-there (start .pre .0) (start .pre .1) (rows .before .before .offset-of .ensures) (rows .before .remote-slot .ensures) (rows .rows-in .ensures) (c .if1 .left)))
 
 returns-2 : tie.Need-returns-2
-returns-2 c = twin-differs (c .before .before .before .before .before .before .before .before .before .before .before .pre .0) (c .before .before .before .before .before .before .before .before .before .before .before .pre .1) (c .before .before .before .before .before .before .offset-of .ensures)
-    (c .before .before .before .before .before .remote-slot .ensures) (c .before .before .before .before .rows-in .ensures) (c .before .before .if1 .left) (c .before .same-copy .ensures) (not-true _ (c .if2 .taken))
+returns-2 c =
+    let rows = c .before .before .before .before in
+    let start = rows .before .before .before .before .before .before .before in
+    twin-differs (start .pre .0) (start .pre .1) (rows .before .before .offset-of .ensures) (rows .before .remote-slot .ensures) (rows .rows-in .ensures)
+    (c .before .before .if1 .left) (c .before .same-copy .ensures) (not-true _ (c .if2 .taken))
 
 offset-of-requires-2 : tie.Need-offset-of-requires-2
-offset-of-requires-2 c κs = let start = c .before .before .before .before .before .before .before .before .before .before .before in
-    offset-asked (start .pre .0) (start .args .other .0) (c .before .before .before .before .before .remote-slot .result .0) (twin-there (c .before .before .before .before .before .before .before .before .before .before .before .pre .0) (c .before .before .before .before .before .before .before .before .before .before .before .pre .1) (c .before .before .before .before .before .before .offset-of .ensures)
-    (c .before .before .before .before .before .remote-slot .ensures) (c .before .before .before .before .rows-in .ensures) (c .before .before .if1 .left))
+offset-of-requires-2 c κs =
+    let rows = c .before .before .before .before in
+    let start = rows .before .before .before .before .before .before .before in
+    offset-asked (start .pre .0) (start .args .other .0) (rows .before .remote-slot .result .0)
+    (twin-there (start .pre .0) (start .pre .1) (rows .before .before .offset-of .ensures) (rows .before .remote-slot .ensures) (rows .rows-in .ensures) (c .before .before .if1 .left))
 
 remote-slot-requires-2 : tie.Need-remote-slot-requires-2
-remote-slot-requires-2 c κs = back-asked (c .before .before .before .before .before .before .before .before .before .before .before .before .pre .0) (c .before .before .before .before .before .before .before .before .before .before .before .before .pre .1) (c .before .before .before .before .before .before .before .offset-of .ensures)
-    (c .before .before .before .before .before .before .remote-slot .ensures) (c .before .before .before .before .before .rows-in .ensures) (c .before .before .before .if1 .left) (c .before .before .same-copy .ensures) (not-false _ (c .before .if2 .left)) (c .offset-of2 .ensures)
+remote-slot-requires-2 c κs =
+    let rows = c .before .before .before .before .before in
+    let start = rows .before .before .before .before .before .before .before in
+    back-asked (start .pre .0) (start .pre .1) (rows .before .before .offset-of .ensures) (rows .before .remote-slot .ensures) (rows .rows-in .ensures)
+    (c .before .before .before .if1 .left) (c .before .before .same-copy .ensures) (not-false _ (c .before .if2 .left)) (c .offset-of2 .ensures)
 
 returns-3 : tie.Need-returns-3
-returns-3 c = twin-back (c .before .before .before .before .before .before .before .before .before .before .before .before .before .before .before .pre .0) (c .before .before .before .before .before .before .before .before .before .before .before .before .before .before .before .pre .1) (c .before .before .before .before .before .before .before .before .before .before .offset-of .ensures)
-    (c .before .before .before .before .before .before .before .before .before .remote-slot .ensures) (c .before .before .before .before .before .before .before .before .rows-in .ensures) (c .before .before .before .before .before .before .if1 .left) (c .before .before .before .before .before .same-copy .ensures) (not-false _ (c .before .before .before .before .if2 .left)) (c .before .before .before .offset-of2 .ensures) (c .before .before .remote-slot2 .ensures)
+returns-3 c =
+    let rows = c .before .before .before .before .before .before .before .before in
+    let start = rows .before .before .before .before .before .before .before in
+    twin-back (start .pre .0) (start .pre .1) (rows .before .before .offset-of .ensures) (rows .before .remote-slot .ensures) (rows .rows-in .ensures)
+    (c .before .before .before .before .before .before .if1 .left) (c .before .before .before .before .before .same-copy .ensures) (not-false _ (c .before .before .before .before .if2 .left)) (c .before .before .before .offset-of2 .ensures) (c .before .before .remote-slot2 .ensures)
 
 pub twin-spec : {M : Type 1} → statement M
 twin-spec =

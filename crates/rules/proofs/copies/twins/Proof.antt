@@ -17,19 +17,23 @@ abbrev μ-loop : tie.MeasureT-loop
 μ-loop image offs starts keys part slot at mask w₀ w = w
 
 offset-of-requires : tie.Need-offset-of-requires Inv-loop μ-loop
-offset-of-requires c κs = let start = c .before .before .before .before in
+offset-of-requires c κs =
+    let start = c .before .before .before .before in
     offset-asked (start .pre .0) (start .args .part .0) (start .args .slot .0) (start .pre .1)
 
 add-long-at : tie.Need-add-long-at Inv-loop μ-loop
-add-long-at c = let start = c .before .before .before .before .before in
+add-long-at c =
+    let start = c .before .before .before .before .before in
     omega (arith, room-48 (start .pre .0) (stands (start .pre .0) (start .args .part .0) (start .args .slot .0) _ (start .pre .1) (c .offset-of .ensures)))
 
 long-at-requires : tie.Need-long-at-requires Inv-loop μ-loop
-long-at-requires c κs = let start = c .before .before .before .before .before in
+long-at-requires c κs =
+    let start = c .before .before .before .before .before in
     omega (arith, room-48 (start .pre .0) (stands (start .pre .0) (start .args .part .0) (start .args .slot .0) _ (start .pre .1) (c .offset-of .ensures)))
 
 without-requires : tie.Need-without-requires Inv-loop μ-loop
-without-requires c κs = let start = c .before .before .before .before .before .before in
+without-requires c κs =
+    let start = c .before .before .before .before .before .before in
     own-asked (start .pre .0) (start .args .part .0) (start .args .slot .0) (start .pre .1) (c .before .offset-of .ensures) (c .long-at .ensures)
 
 loop-holds : tie.Need-loop-holds Inv-loop μ-loop
@@ -42,16 +46,21 @@ rest-requires : tie.Need-rest-requires Inv-loop μ-loop
 rest-requires c κs = omega arith
 
 twin-requires : tie.Need-twin-requires Inv-loop μ-loop
-twin-requires c κs = let start = c .before .before .before .before .before .before .before .before .before .before .before in (
-  start .pre .0,
-  twin-asked (start .pre .0) (start .args .part .0) (start .args .slot .0) (start .pre .1) (c .before .before .before .before .before .before .offset-of .ensures) (c .before .before .before .before .before .long-at .ensures) (c .before .before .before .before .without .result) (c .before .before .before .before .without .ensures .1) _
-      (walks-in _ _ _ _ _ (c .before .before .before .loop .inv) (c .rest .ensures) (c .before .lowest .ensures .0)),
-)
+twin-requires c κs =
+    let set = c .before .before .before .before in
+    let start = set .before .before .before .before .before .before .before in (
+      start .pre .0,
+      twin-asked (start .pre .0) (start .args .part .0) (start .args .slot .0) (start .pre .1) (set .before .before .offset-of .ensures) (set .before .long-at .ensures) (set .without .result) (set .without .ensures .1) _
+          (walks-in _ _ _ _ _ (c .before .before .before .loop .inv) (c .rest .ensures) (c .before .lowest .ensures .0)),
+    )
 
 returns : tie.Need-returns Inv-loop μ-loop
-returns c = let start = c .before .before .before .before .before .before .before .before .before .before .before .before .before in
-    walks-fails _ _ _ _ _ (c .before .before .before .before .before .loop .inv) (c .before .before .rest .ensures) (c .before .before .before .lowest .ensures .0) (sym (c .before .twin .ensures) ∙ not-true _ (c .if1 .taken))
-    ∙ twins-judged (start .pre .0) (start .args .part .0) (start .args .slot .0) (start .pre .1) (c .before .before .before .before .before .before .before .before .offset-of .ensures) (c .before .before .before .before .before .before .before .long-at .ensures) (c .before .before .before .before .before .before .without .result) (c .before .before .before .before .before .before .without .ensures .1)
+returns c =
+    let set = c .before .before .before .before .before .before in
+    let start = set .before .before .before .before .before .before .before in
+    walks-fails _ _ _ _ _ (c .before .before .before .before .before .loop .inv) (c .before .before .rest .ensures) (c .before .before .before .lowest .ensures .0)
+    (sym (c .before .twin .ensures) ∙ not-true _ (c .if1 .taken))
+    ∙ twins-judged (start .pre .0) (start .args .part .0) (start .args .slot .0) (start .pre .1) (set .before .before .offset-of .ensures) (set .before .long-at .ensures) (set .without .result) (set .without .ensures .1)
 
 loop-less : tie.Need-loop-less Inv-loop μ-loop
 loop-less c = c .before .before .rest .ensures .less
@@ -61,9 +70,11 @@ loop-again c = walks-more _ _ _ _ _ (c .before .before .before .before .before .
     (sym (c .before .twin .ensures) ∙ not-false _ (c .if1 .left))
 
 returns-2 : tie.Need-returns-2 Inv-loop μ-loop
-returns-2 c = let start = c .before .before .before .before .before .before .before .before .before in
+returns-2 c =
+    let set = c .before .before in
+    let start = set .before .before .before .before .before .before .before in
     walks-done _ _ _ (c .before .loop .inv) (c .loop-test .left)
-    ∙ twins-judged (start .pre .0) (start .args .part .0) (start .args .slot .0) (start .pre .1) (c .before .before .before .before .offset-of .ensures) (c .before .before .before .long-at .ensures) (c .before .before .without .result) (c .before .before .without .ensures .1)
+    ∙ twins-judged (start .pre .0) (start .args .part .0) (start .args .slot .0) (start .pre .1) (set .before .before .offset-of .ensures) (set .before .long-at .ensures) (set .without .result) (set .without .ensures .1)
 
 pub twins-spec : {M : Type 1} → statement M
 twins-spec =

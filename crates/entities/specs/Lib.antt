@@ -1,0 +1,2 @@
+pub mod LowestCopies
+pub mod Gathering
