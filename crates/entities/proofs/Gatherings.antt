@@ -24,6 +24,7 @@ pub record Filled (b starts ord₀ st₀ ord st : List ℕ) (n p k : ℕ) : Type
   pub count : k ≡ length (front (lowRows (setIn b) starts) p)
   pub filled : take k ord ≡ front (lowRows (setIn b) starts) p
   pub few : k ≤ getD starts p 0
+  pub small : k ≤ maxRows
   pub same-ord : length ord ≡ length ord₀
   pub same-st : length st ≡ length st₀
 
@@ -35,18 +36,12 @@ module _ {b offs starts : List ℕ} {n : ℕ} (ready : Readable b offs starts n)
     count = sym (ap length (front-none (lowRows (setIn b) starts)));
     filled = sym (front-none (lowRows (setIn b) starts));
     few = omega arith;
+    small = omega arith;
     same-ord = refl;
     same-st = refl;
   }
 
   module _ (ord st : List ℕ) (p k : ℕ) (now : Filled b starts ord₀ st₀ ord st n p k) where
-    pub filled-small : k ≤ maxRows
-    filled-small =
-        ⊎-elim
-        (λ (e : p ≡ n). omega (arith, now .few, ready .indexed .total-few, ap (λ (i : ℕ). getD starts i 0) e))
-        (λ (l : p < n). omega (arith, now .few, ready .indexed .total-few, part-room (ready .indexed) p l))
-        (eq-or-lt-of-le (now .within))
-
     pub filled-room : p < n → PartRoom (setIn b) p k ord
     filled-room h = record {
       few = omega (arith, ready .indexed .count);
@@ -70,6 +65,7 @@ module _ {b offs starts : List ℕ} {n : ℕ} (ready : Readable b offs starts n)
           count = omega (arith, g .count, now .count, front-length f p);
           filled = g .front ∙ ap (λ (xs : List ℕ). xs ++ f p) (now .filled) ∙ sym (front-more f p);
           few = omega (arith, g .count, now .few, ready .indexed .next p h, low-few (setIn b) starts p);
+          small = omega (arith, g .count, now .few, low-few (setIn b) starts p, part-room (ready .indexed) p h, ready .indexed .total-few);
           same-ord = g .same ∙ now .same-ord;
           same-st = length-set st p k ∙ now .same-st;
         }

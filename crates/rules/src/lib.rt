@@ -1,4 +1,5 @@
 // The judgements of a row, one for each of the refusals 7 to 12, a module for each.
+pub mod boundary;
 pub mod copies;
 pub mod covered;
 pub mod fields;

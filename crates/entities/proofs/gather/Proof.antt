@@ -2,7 +2,7 @@
 use Prim.Native.Nat.{_-_}
 use native.Mathlib.Omega.{arith}
 use lib.ListN.{length-set}
-use Rattle.entities.proofs.Gatherings.{Filled, filled-none, filled-small, filled-room, filled-more, filled-done, readable-all}
+use Rattle.entities.proofs.Gatherings.{Filled, filled-none, filled-room, filled-more, filled-done, readable-all}
 use Rattle.entities.proofs.gather.Statement.{statement}
 use Rattle.entities.proofs.gather.Tie as tie
 
@@ -16,9 +16,7 @@ loop-holds : tie.Need-loop-holds Inv-loop μ-loop
 loop-holds c = let pre = c .before .before .before .before .before .pre in filled-none (pre .0) _ _ (pre .1 .0) (pre .1 .1)
 
 cast-st : tie.Need-cast-st Inv-loop μ-loop
-cast-st c =
-    let pre = c .before .before .before .before .before .before .before .pre in
-    omega (arith, filled-small (pre .0) _ _ (pre .1 .0) (pre .1 .1) _ _ _ _ (c .before .loop .inv))
+cast-st c = omega arith
 
 cast-st-2 : tie.Need-cast-st-2 Inv-loop μ-loop
 cast-st-2 c = omega arith
@@ -47,9 +45,7 @@ loop-again c =
     (c .before .before .before .before .loop-test .taken) (c .before .before .gather-part .ensures)
 
 cast-st-3 : tie.Need-cast-st-3 Inv-loop μ-loop
-cast-st-3 c =
-    let pre = c .before .before .before .before .before .before .before .pre in
-    omega (arith, filled-small (pre .0) _ _ (pre .1 .0) (pre .1 .1) _ _ _ _ (c .before .loop .inv))
+cast-st-3 c = omega arith
 
 mul-st-2 : tie.Need-mul-st-2 Inv-loop μ-loop
 mul-st-2 c = omega arith

@@ -1,0 +1,10 @@
+pub mod Tests
+pub mod Unions
+pub mod Pigeon
+pub mod Fits
+pub mod Pairs
+pub mod Triples
+pub mod Reading
+pub mod Standing
+pub mod Judging
+pub mod Laws
