@@ -14,7 +14,7 @@ use Rattle.paper.specs.Sound.{soundOf}
 
 -- ---- numbers in decimal
 
--- the digits of n before those in `rest`, without leading zeros; k is above the number of digits
+-- the digits of n before those in `rest`, without leading zeros; k is at least the number of digits
 unfoldable pub digits : ℕ → ℕ → List ℕ → List ℕ
 digits zero n rest = rest
 digits (suc k) n rest = let more = digits k (n / 10) ((48 + n % 10) ∷ rest) in cond (ltb n 10) ((48 + n) ∷ rest) more

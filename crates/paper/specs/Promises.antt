@@ -8,7 +8,7 @@ use Rattle.paper.specs.declared.CheckAnswer.{CheckAnswer}
 use Rattle.paper.specs.declared.MigrateAnswer.{MigrateAnswer}
 use Rattle.paper.specs.declared.LookupAnswer.{LookupAnswer}
 use Rattle.paper.specs.declared.BoxAnswer.{BoxAnswer}
-use Rattle.paper.specs.Outcome.{Outcome, answered}
+use Rattle.paper.specs.Outcome.{answered}
 use Rattle.paper.specs.Sound.{checkOf}
 use Rattle.paper.specs.Move.{migrateOf, sizesOf, outAfter, workAfter}
 use Rattle.paper.specs.Lookup.{lookupOf}

@@ -1,6 +1,6 @@
 -- When a set is sound (document 01, under that heading): one judgement of a row for each of the refusals 7 to 12, the first fault by part
 -- and then by slot, and the check, which is the refusal table from 1 to 12. Assumes nothing.
-use Prim.Native.Nat.{ℕ, zero, suc, _+_, _*_, _/_, _%_, _^_}
+use Prim.Native.Nat.{ℕ, zero, suc, _+_, _*_, _^_}
 use mathlib.Core.Bool.{Bool, true, not, _&&_, _||_}
 use mathlib.Core.List.{List, [], _∷_, map}
 use mathlib.Core.Option.{Option, none, some}

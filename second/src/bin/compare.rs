@@ -88,7 +88,8 @@ fn print_answers(comparison: &Comparison) -> ExitCode {
     for (number, calls) in comparison.answers.iter().enumerate() {
         println!("{number:>6} {calls:>7}");
     }
-    let missing: Vec<usize> = (1..22).filter(|&n| comparison.answers[n] == 0).collect();
+    let mut missing = comparison.refusals();
+    missing.retain(|&number| comparison.answers[number] == 0);
     if comparison.calls() >= CALLS_FOR_ALL_REFUSALS && !missing.is_empty() {
         println!("refusals that never came up: {missing:?}");
         return ExitCode::FAILURE;
