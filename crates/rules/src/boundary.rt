@@ -69,12 +69,14 @@ fn pairs_corners(p: Pair, q: Pair, r: Pair) -> Triple
     }
 }
 
+// Whether a pair is a, b.
 fn pair_is(p: Pair, a: u32, b: u32) -> bool
     ensures { λ r. ⌜ r ≡ same (a ∷ b ∷ []) (two p) ⌝ }
 {
     (a == p.a) & (b == p.b)
 }
 
+// Whether one of three is.
 fn some_pair_is(p: Pair, q: Pair, r: Pair, a: u32, b: u32) -> bool
     ensures { λ t. ⌜ t ≡ hit (a ∷ b ∷ []) (two p ∷ two q ∷ two r ∷ []) ⌝ }
 {
@@ -106,12 +108,14 @@ fn triples_corners(p: Triple, q: Triple, r: Triple, s: Triple) -> Quad
     }
 }
 
+// Whether a triple is a, b, c.
 fn triple_is(p: Triple, a: u32, b: u32, c: u32) -> bool
     ensures { λ r. ⌜ r ≡ same (a ∷ b ∷ c ∷ []) (three p) ⌝ }
 {
     (a == p.a) & (b == p.b) & (c == p.c)
 }
 
+// Whether one of four is the triple v.
 fn some_triple_is(p: Triple, q: Triple, r: Triple, s: Triple, v: Triple) -> bool
     ensures { λ t. ⌜ t ≡ hit (three v) (three p ∷ three q ∷ three r ∷ three s ∷ []) ⌝ }
 {
@@ -175,6 +179,7 @@ fn triples_fit(p: Triple, q: Triple, r: Triple, s: Triple) -> bool
         )
 }
 
+// Whether a triangle names the edge e.
 fn names(t: Triple, e: u32) -> bool
     ensures { λ r. ⌜ r ≡ member e (three t) ⌝ }
 {
@@ -188,6 +193,7 @@ fn share(p: Triple, q: Triple) -> bool
     names(q, p.a) | names(q, p.b) | names(q, p.c)
 }
 
+// Whether each two of four triangles, each by its edges, share one.
 fn each_two_share(p: Triple, q: Triple, r: Triple, s: Triple) -> bool
     ensures { λ t. ⌜ t ≡ pairwise shares (three p ∷ three q ∷ three r ∷ three s ∷ []) ⌝ }
 {
@@ -245,7 +251,7 @@ fn face_is(starts: &[u32], keys: &[u64], part: Part, dim: u64, slot: u32) -> boo
     keys[row] / 4294967296 == dim
 }
 
-// Whether the slots hold rows of the given dimension, and ascend.
+// Whether two slots hold vertices, and ascend.
 fn pair_stands(starts: &[u32], keys: &[u64], part: Part, p: Pair) -> bool
     requires { ⌜ PartKeyed (now starts) (now keys) (part .0) ⌝ }
     ensures { λ r. ⌜ r ≡ facesKeyed (now (starts .entry)) (now (keys .entry)) (part .0) 0 (two p) ⌝ }
@@ -253,6 +259,7 @@ fn pair_stands(starts: &[u32], keys: &[u64], part: Part, p: Pair) -> bool
     face_is(starts, keys, part, 0, p.a) & face_is(starts, keys, part, 0, p.b) & (p.a < p.b)
 }
 
+// Whether three slots hold edges, and ascend.
 fn triple_stands(starts: &[u32], keys: &[u64], part: Part, t: Triple) -> bool
     requires { ⌜ PartKeyed (now starts) (now keys) (part .0) ⌝ }
     ensures { λ r. ⌜ r ≡ facesKeyed (now (starts .entry)) (now (keys .entry)) (part .0) 1 (three t) ⌝ }
@@ -264,6 +271,7 @@ fn triple_stands(starts: &[u32], keys: &[u64], part: Part, t: Triple) -> bool
         & (t.b < t.c)
 }
 
+// Whether four slots hold triangles, and ascend.
 fn quad_stands(starts: &[u32], keys: &[u64], part: Part, q: Quad) -> bool
     requires { ⌜ PartKeyed (now starts) (now keys) (part .0) ⌝ }
     ensures { λ r. ⌜ r ≡ facesKeyed (now (starts .entry)) (now (keys .entry)) (part .0) 2 (four q) ⌝ }
@@ -324,6 +332,7 @@ fn triangles_share(image: &[u8], offs: &[u32], starts: &[u32], part: Part, q: Qu
     each_two_share(s, t, u, v)
 }
 
+// The judgement of an edge: two vertices always bound it.
 fn edge(image: &[u8], offs: &[u32], starts: &[u32], keys: &[u64], part: Part, slot: Slot) -> bool
     requires { ⌜ RowOf 1 (now image) (now offs) (now starts) (now keys) (part .0) (slot .0) ⌝ }
     ensures { λ r. ⌜ r ≡ judged Boundary (setIn (now (image .entry))) (part .0) (slot .0) ⌝ }
@@ -332,6 +341,7 @@ fn edge(image: &[u8], offs: &[u32], starts: &[u32], keys: &[u64], part: Part, sl
     pair_stands(starts, keys, part, p)
 }
 
+// The judgement of a triangle. Edges are read only where they stand.
 fn triangle(
     image: &[u8],
     offs: &[u32],
@@ -350,6 +360,7 @@ fn triangle(
     false
 }
 
+// The judgement of a tetrahedron.
 fn tetrahedron(
     image: &[u8],
     offs: &[u32],

@@ -1,0 +1,4 @@
+pub mod Accepted
+pub mod Points
+pub mod Growing
+pub mod Looking

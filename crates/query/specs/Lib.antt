@@ -1,0 +1,2 @@
+pub mod Examined
+pub mod Vertices
