@@ -1,4 +1,5 @@
 pub mod Accepted
+pub mod Examining
 pub mod Points
 pub mod Growing
 pub mod Looking

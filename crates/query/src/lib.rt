@@ -8,6 +8,7 @@ use paper::Part;
 use paper::Point;
 use paper::Refusal;
 use paper::Slot;
+use sound::Examined;
 ghost use Prim.Native.Nat.{_+_, _≤_};
 ghost use mathlib.Core.Path.{_≡_};
 ghost use mathlib.Core.List.{[], _∷_};
@@ -20,9 +21,8 @@ ghost use Rattle.paper.specs.Box.{pointOf};
 ghost use Rattle.paper.specs.Answers.{lookupAnswer};
 ghost use Rattle.paper.specs.Promises.{LooksUp, Bounds};
 ghost use Rattle.index.specs.Index.{rowFrom, Named};
-ghost use Rattle.query.specs.Examined.{Examined};
+ghost use Rattle.query.specs.SoundIndex.{SoundIndex};
 ghost use Rattle.query.specs.Vertices.{boxIn, vertices, further};
-
 // The box around the vertices so far, if there is one.
 enum Extent {
     Empty,
@@ -52,7 +52,7 @@ fn lookup_in(
     dimension: u32,
     number: Number,
 ) -> LookupAnswer
-    requires { ⌜ Examined (now image) (now offs) (now starts) n ⌝ }
+    requires { ⌜ SoundIndex (now image) (now offs) (now starts) n ⌝ }
     requires { ⌜ Named (now image) (now starts) (now keys) ⌝ }
     ensures { λ r. ⌜ LooksUp (now (image .entry)) dimension (number .0) r ⌝ }
 {
@@ -120,7 +120,7 @@ fn with_row(extent: Extent, image: &[u8], at: usize) -> Extent
 
 // The box around the vertices of a part, in slot order.
 fn box_in(image: &[u8], offs: &[u32], starts: &[u32], n: u32, part: Part) -> BoxAnswer
-    requires { ⌜ Examined (now image) (now offs) (now starts) n ⌝ }
+    requires { ⌜ SoundIndex (now image) (now offs) (now starts) n ⌝ }
     ensures { λ r. ⌜ Bounds (now (image .entry)) (part .0) r ⌝ }
 {
     if n <= part.0 {
@@ -141,5 +141,71 @@ fn box_in(image: &[u8], offs: &[u32], starts: &[u32], n: u32, part: Part) -> Box
     match extent {
         Extent::Empty => BoxAnswer::NoVertex,
         Extent::Around(b) => BoxAnswer::Around(b),
+    }
+}
+
+// The residence set and the owner of an entity. No entity has a dimension above 3.
+pub fn lookup(image: &[u8], dimension: u8, number: Number) -> LookupAnswer
+    ensures { λ r. ⌜ LooksUp (now (image .entry)) dimension (number .0) r ⌝ }
+{
+    let mut offs = [0u32; 21846];
+    let mut keys = [0u64; 21846];
+    let mut starts = [0u32; 65];
+    let mut covered = [0u8; 21846];
+    let mut counts = [0u32; 64];
+    let mut ord = [0u32; 21846];
+    let examined = sound::examine(
+        image,
+        &mut offs,
+        &mut keys,
+        &mut starts,
+        &mut covered,
+        &mut counts,
+        &mut ord,
+    );
+    match examined {
+        Examined::Refused(refusal) => LookupAnswer::Refused(refusal),
+        Examined::Sound {
+            parts,
+            rows,
+            entities,
+        } => lookup_in(
+            image,
+            &offs,
+            &starts,
+            &keys,
+            parts,
+            field::wide(dimension),
+            number,
+        ),
+    }
+}
+
+// The least and greatest x, y, z of a part's vertices.
+pub fn box_of(image: &[u8], part: Part) -> BoxAnswer
+    ensures { λ r. ⌜ Bounds (now (image .entry)) (part .0) r ⌝ }
+{
+    let mut offs = [0u32; 21846];
+    let mut keys = [0u64; 21846];
+    let mut starts = [0u32; 65];
+    let mut covered = [0u8; 21846];
+    let mut counts = [0u32; 64];
+    let mut ord = [0u32; 21846];
+    let examined = sound::examine(
+        image,
+        &mut offs,
+        &mut keys,
+        &mut starts,
+        &mut covered,
+        &mut counts,
+        &mut ord,
+    );
+    match examined {
+        Examined::Refused(refusal) => BoxAnswer::Refused(refusal),
+        Examined::Sound {
+            parts,
+            rows,
+            entities,
+        } => box_in(image, &offs, &starts, parts, part),
     }
 }

@@ -3,12 +3,12 @@ use Prim.Native.Nat.{ℕ, _<_}
 use mathlib.Core.Path.{_≡_, refl, sym, ap, _∙_}
 use mathlib.Core.Bool.{Bool}
 use mathlib.Core.List.{[]}
-use mathlib.Core.Option.{Option, none, some}
+use mathlib.Core.Option.{Option, none, some, Option·some-ne-none}
 use lib.ListN.{length, getD}
 use lib.Dec.{T}
 use Rattle.paper.specs.declared.Part.{Part}
 use Rattle.paper.specs.declared.Slot.{Slot}
-use Rattle.paper.specs.Outcome.{Place, refused, accepted, unless}
+use Rattle.paper.specs.Outcome.{Place, accepted, unless}
 use Rattle.paper.specs.Image.{Set}
 use Rattle.paper.specs.Sound.{firstFault, rowsMust}
 use Rattle.paper.proofs.Outcomes.{not-refused}
@@ -32,17 +32,11 @@ module _ (ok : ℕ → ℕ → Bool) (S : Set) where
       go (some place) e = absurd (not-refused e)
 
   module _ (fault : Fault) (found : faultPlace fault ≡ firstFault ok 0 S) where
-    pub must-unless : (k : ℕ) → rowsMust k S ok ≡ unless k (faultPlace fault)
-    unfolding rowsMust
-    must-unless k = ap (unless k) (sym found)
-
-    pub clear-must : fault ≡ None → (k : ℕ) → rowsMust k S ok ≡ accepted tt
-    unfolding unless
-    clear-must e k = must-unless k ∙ ap (λ (f : Fault). unless k (faultPlace f)) e
-
     pub clear-passes : fault ≡ None → (p s : ℕ) → s < length (getD S p []) → T (ok p s)
     clear-passes e = none-passes (sym found ∙ ap faultPlace e)
 
-    pub fault-must : (part : Part) (slot : Slot) → fault ≡ At part slot → (k : ℕ) → rowsMust k S ok ≡ refused k (record { major = part .0; minor = slot .0 })
-    unfolding unless
-    fault-must part slot e k = must-unless k ∙ ap (λ (f : Fault). unless k (faultPlace f)) e
+    pub fault-place : (part : Part) (slot : Slot) → fault ≡ At part slot → firstFault ok 0 S ≡ some (record { major = part .0; minor = slot .0 })
+    fault-place part slot e = sym found ∙ ap faultPlace e
+
+    pub fault-fails : (part : Part) (slot : Slot) → fault ≡ At part slot → ((p s : ℕ) → s < length (getD S p []) → T (ok p s)) → ⊥
+    fault-fails part slot e pass = Option·some-ne-none _ (sym (fault-place part slot e) ∙ passes-none pass)

@@ -13,13 +13,13 @@ use lib.Seq.{drop-cons}
 use lib.Dec.{T}
 use borrow.Author.Tests.{not-true, not-false}
 use Rattle.laws.specs.Lists.{from, upTo, firstBad}
+use Rattle.laws.proofs.Tests.{true-T}
 use Rattle.paper.specs.Outcome.{Place}
 use Rattle.paper.specs.Image.{Row, Set}
 use Rattle.paper.specs.Sound.{firstFault}
 use Rattle.sound.specs.declared.Fault.{Fault}
 use Rattle.sound.specs.declared.Fault.the-variants.{None, At}
 use Rattle.sound.specs.Faults.{faultPlace}
-use Rattle.laws.proofs.Tests.{true-T}
 
 -- a count up to n has one turn more to go before a turn than after it
 sub-step : (n i : ℕ) → i < n → n - i ≡ suc (n - suc i)

@@ -50,7 +50,7 @@ with-row-requires c κs =
     let pre = called .before .before .before .before .before .before .pre in
     let rows = part-rows (pre .indexed) (args .part .0) (called .before .if1 .left) in
     let there : in-loop .before .loop .s < length (getD (setIn (args .image .now)) (args .part .0) []) = omega (arith, rows, called .rows-in .ensures, in-loop .loop-test .taken) in
-    (omega (arith, c .offset-of .ensures, offset-there (pre .indexed) (args .part .0) (in-loop .before .loop .s) there), body-at (pre .indexed) (args .part .0) _ there (c .offset-of .ensures) (pre .sound))
+    (omega (arith, c .offset-of .ensures, offset-there (pre .indexed) (args .part .0) (in-loop .before .loop .s) there), body-at (pre .indexed) (args .part .0) _ there (c .offset-of .ensures) (pre .passed))
 
 add-s : tie.Need-add-s Inv-loop μ-loop
 add-s c = omega arith

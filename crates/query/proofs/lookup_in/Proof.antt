@@ -6,7 +6,7 @@ use borrow.Author.Needs.{needs}
 use Rattle.index.specs.Index.{setIn}
 use Rattle.index.proofs.Answers.{hit, miss, searchable, hit-row}
 use Rattle.rules.proofs.rows.Laws.{row-there, offset-there}
-use Rattle.query.proofs.Accepted.{kept, lookup-is}
+use Rattle.query.proofs.Accepted.{in-order, lookup-is}
 use Rattle.query.proofs.Looking.{Left, over, later, here}
 use Rattle.query.proofs.lookup_in.Statement.{statement}
 use Rattle.query.proofs.lookup_in.Tie as tie
@@ -32,7 +32,7 @@ loop-holds c = refl
 find-requires : tie.Need-find-requires Inv-loop μ-loop
 find-requires c κs =
     let pre = c .before .before .before .before .before .before .before .pre in
-    searchable (pre .0 .indexed) _ (c .loop-test .taken) (pre .1) (kept _ _ (pre .0 .sound) .order _)
+    searchable (pre .0 .indexed) _ (c .loop-test .taken) (pre .1) (in-order _ (pre .0 .passed) _)
 
 enum-known-found : tie.Need-enum-known-found Inv-loop μ-loop
 enum-known-found c = search needs
@@ -60,7 +60,7 @@ returns c =
     let pre = in-loop .before .before .before .before .before .before .before .pre in
     record {
       answer =
-          here _ (pre .0 .indexed) (pre .1) _ (in-loop .loop-test .taken) (in-loop .before .loop .inv) _ (kept _ _ (pre .0 .sound) .order _)
+          here _ (pre .0 .indexed) (pre .1) _ (in-loop .loop-test .taken) (in-loop .before .loop .inv) _ (in-order _ (pre .0 .passed) _)
           (hit _ _ (c .before .before .before .found .given .1) (found .find .ensures)) (c .before .offset-of .ensures) (c .home-at .ensures)
           ∙ sym (lookup-is _ _ (pre .0 .sound) _ _);
     }

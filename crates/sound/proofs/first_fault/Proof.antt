@@ -7,10 +7,6 @@ use Rattle.rules.proofs.rows.Laws.{part-rows}
 use Rattle.sound.proofs.Loops.{AtPart, AtSlot, start, enter, skip, hit, leave, over}
 use Rattle.sound.proofs.first_fault.Statement.{statement}
 use Rattle.sound.proofs.first_fault.Tie as tie
-use Rattle.sound.proofs.first_fault.Reads as reads
-use Rattle.sound.proofs.first_fault.Lts as lts
-use Rattle.rules.proofs.rows.rows_in.Reads as rows-in-reads
-use Rattle.sound.proofs.judge.Reads as judge-reads
 
 abbrev Inv-loop : tie.InvT-loop
 Inv-loop rule image offs keys starts covered counts n fault₀ p rows s₀ fault s = AtSlot (judged rule (setIn image)) (setIn image) p s fault

@@ -1,0 +1,82 @@
+-- `sound::all_rules`: the rules in the order of their refusals. Assumes nothing.
+use borrow.Author.Needs.{needs}
+use Rattle.sound.proofs.Examining.{copies-ahead, homes-ahead, all-stop}
+use Rattle.sound.proofs.all_rules.Statement.{statement}
+use Rattle.sound.proofs.all_rules.Tie as tie
+
+shape-rules-requires : tie.Need-shape-rules-requires
+shape-rules-requires c κs = search needs
+
+enum-known-shape : tie.Need-enum-known-shape
+enum-known-shape c = search needs
+
+same-length : tie.Need-same-length
+same-length c = search needs
+
+same-length-2 : tie.Need-same-length-2
+same-length-2 c = search needs
+
+returns : tie.Need-returns
+returns c = all-stop _ _ _ _ _ _ 9 (c .before .before .before .shape-rules .ensures) _ (c .before .shape .given .1)
+
+enum-told : tie.Need-enum-told
+enum-told c = search needs
+
+copy-rule-requires : tie.Need-copy-rule-requires
+copy-rule-requires c κs = let pre = c .before .before .before .before .before .before .before .before .before .before .before .before .before .before .before .pre in copies-ahead (pre .0) (pre .1) (c .before .before .before .before .before .shape-rules .ensures) (c .before .before .before .enum-told .given .1)
+
+enum-known-stage : tie.Need-enum-known-stage
+enum-known-stage c = search needs
+
+same-length-3 : tie.Need-same-length-3
+same-length-3 c = search needs
+
+same-length-4 : tie.Need-same-length-4
+same-length-4 c = search needs
+
+same-length-5 : tie.Need-same-length-5
+same-length-5 c = search needs
+
+returns-2 : tie.Need-returns-2
+returns-2 c = all-stop _ _ _ _ _ _ 10 (c .before .before .before .before .before .copy-rule .ensures .answer) _ (c .before .stage .given .1)
+
+enum-told-2 : tie.Need-enum-told-2
+enum-told-2 c = search needs
+
+home-rules-requires : tie.Need-home-rules-requires
+home-rules-requires c κs = let pre = c .before .before .before .before .before .before .before .before .before .before .before .before .before .before .before .before .before .before .before .before .before .before .pre in homes-ahead (pre .0) (pre .1) (c .before .before .before .before .before .before .copy-rule .ensures .answer) (c .before .before .enum-told2 .given .1)
+
+same-length-6 : tie.Need-same-length-6
+same-length-6 c = search needs
+
+same-length-7 : tie.Need-same-length-7
+same-length-7 c = search needs
+
+same-length-8 : tie.Need-same-length-8
+same-length-8 c = search needs
+
+returns-3 : tie.Need-returns-3
+returns-3 c = record { homes = c .before .before .before .before .home-rules .ensures; listed = λ go. c .before .before .before .before .before .before .before .before .before .before .before .copy-rule .ensures .listed (c .before .before .before .before .before .before .before .enum-told2 .given .1) }
+
+pub all-rules-spec : {M : Type 1} → statement M
+all-rules-spec =
+    tie.close
+    (tie.spec
+    shape-rules-requires
+    enum-known-shape
+    same-length
+    same-length-2
+    returns
+    enum-told
+    copy-rule-requires
+    enum-known-stage
+    same-length-3
+    same-length-4
+    same-length-5
+    returns-2
+    enum-told-2
+    home-rules-requires
+    same-length-6
+    same-length-7
+    same-length-8
+    returns-3)

@@ -1,0 +1,62 @@
+-- `sound::copy_rule`: the copies that are named, then the names of the lowest copies, and only then row by row. Assumes nothing.
+use mathlib.Core.Path.{refl}
+use native.Mathlib.Omega.{arith}
+use Rattle.rules.specs.declared.Rule.the-variants.{Twins, Copies}
+use borrow.Author.Needs.{needs}
+use Rattle.sound.proofs.Readiness.{early, for-entities}
+use Rattle.sound.proofs.Passes.{twins-fail, names-distinct, names-judged}
+use Rattle.sound.proofs.copy_rule.Statement.{statement}
+use Rattle.sound.proofs.copy_rule.Tie as tie
+
+first-fault-requires : tie.Need-first-fault-requires
+first-fault-requires c κs = let ahead = c .before .before .before .before .before .before .before .pre in early (ahead .tables) Twins (omega arith) (ahead .passed)
+
+enum-known-twins : tie.Need-enum-known-twins
+enum-known-twins c = search needs
+
+judge-rows-requires : tie.Need-judge-rows-requires
+judge-rows-requires c κs = let ahead = c .before .before .before .before .before .before .before .before .before .before .before .pre in (early (ahead .tables) Copies (omega arith) (ahead .passed), refl)
+
+returns : tie.Need-returns
+returns c = twins-fail (c .before .before .before .before .before .before .before .before .before .before .before .before .pre) _ (c .before .before .before .before .first-fault .ensures) _ _ (c .before .before .twins .given .1) _ (c .judge-rows .ensures)
+
+enum-told : tie.Need-enum-told
+enum-told c = search needs
+
+slice-aggregate-entities : tie.Need-slice-aggregate-entities
+slice-aggregate-entities c = search needs
+
+entities-requires : tie.Need-entities-requires
+entities-requires c κs = for-entities (c .before .before .before .before .before .before .before .before .before .before .before .before .pre) (omega arith)
+
+same-length : tie.Need-same-length
+same-length c = search needs
+
+returns-2 : tie.Need-returns-2
+returns-2 c = names-distinct (c .before .before .before .before .before .before .before .before .before .before .before .before .before .before .before .before .before .pre) (c .before .before .before .before .entities .ensures) _ (c .before .before .before .before .before .before .before .before .before .first-fault .ensures) (c .before .before .before .before .before .before .before .enum-told .given .1) (c .if1 .taken)
+
+judge-rows-requires-2 : tie.Need-judge-rows-requires-2
+judge-rows-requires-2 c κs = let ahead = c .before .before .before .before .before .before .before .before .before .before .before .before .before .before .before .before .before .pre in (early (ahead .tables) Copies (omega arith) (ahead .passed), refl)
+
+same-length-2 : tie.Need-same-length-2
+same-length-2 c = search needs
+
+returns-3 : tie.Need-returns-3
+returns-3 c = names-judged (c .before .before .before .before .before .before .before .before .before .before .before .before .before .before .before .before .before .before .pre) (c .before .before .before .before .before .entities .ensures) _ (c .judge-rows2 .ensures)
+
+pub copy-rule-spec : {M : Type 1} → statement M
+copy-rule-spec =
+    tie.close
+    (tie.spec
+    first-fault-requires
+    enum-known-twins
+    judge-rows-requires
+    returns
+    enum-told
+    slice-aggregate-entities
+    entities-requires
+    same-length
+    returns-2
+    judge-rows-requires-2
+    same-length-2
+    returns-3)

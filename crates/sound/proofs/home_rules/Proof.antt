@@ -1,0 +1,62 @@
+-- `sound::home_rules`: each table is filled before the rule that reads it. Assumes nothing.
+use mathlib.Core.Path.{refl}
+use native.Mathlib.Omega.{arith}
+use Rattle.rules.proofs.owner.Laws.{countable}
+use borrow.Author.Needs.{needs}
+use Rattle.sound.proofs.Readiness.{for-residence, for-cover}
+use Rattle.sound.proofs.Passes.{homes-stop, owner-ready, homes-judged}
+use Rattle.sound.proofs.home_rules.Statement.{statement}
+use Rattle.sound.proofs.home_rules.Tie as tie
+
+cover-requires : tie.Need-cover-requires
+cover-requires c κs = for-cover (c .before .before .before .before .before .before .before .pre)
+
+judge-rows-requires : tie.Need-judge-rows-requires
+judge-rows-requires c κs = let ahead = c .before .before .before .before .before .before .before .before .before .before .before .before .pre in (for-residence (ahead .tables) (ahead .passed) (c .before .before .before .before .cover .ensures .covers), refl)
+
+enum-known-residence : tie.Need-enum-known-residence
+enum-known-residence c = search needs
+
+same-length : tie.Need-same-length
+same-length c = search needs
+
+same-length-2 : tie.Need-same-length-2
+same-length-2 c = search needs
+
+returns : tie.Need-returns
+returns c = homes-stop _ _ _ 11 (c .before .before .before .judge-rows .ensures) _ (c .before .residence .given .1)
+
+enum-told : tie.Need-enum-told
+enum-told c = search needs
+
+count-objects-requires : tie.Need-count-objects-requires
+count-objects-requires c κs = let ahead = c .before .before .before .before .before .before .before .before .before .before .before .before .before .before .before .before .before .pre in countable (ahead .tables .indexed) (c .before .before .before .before .before .before .before .before .before .cover .ensures .covers) (ahead .counts-room)
+
+judge-rows-requires-2 : tie.Need-judge-rows-requires-2
+judge-rows-requires-2 c κs = (owner-ready (c .before .before .before .before .before .before .before .before .before .before .before .before .before .before .before .before .before .before .before .before .before .before .pre) (c .before .before .before .before .before .before .before .before .before .before .before .before .before .before .cover .ensures) (c .before .before .before .before .before .before .before .before .before .judge-rows .ensures) (c .before .before .before .before .before .before .before .enum-told .given .1) (λ i. omega (arith, c .before .before .before .before .before .before .before .before .before .before .before .before .before .before .before .before .before .before .before .before .before .shared-slice-known .given i)) (c .before .before .before .before .count-objects .ensures), refl)
+
+same-length-3 : tie.Need-same-length-3
+same-length-3 c = search needs
+
+same-length-4 : tie.Need-same-length-4
+same-length-4 c = search needs
+
+returns-2 : tie.Need-returns-2
+returns-2 c = homes-judged (c .before .before .before .before .before .before .before .before .before .before .before .before .before .before .before .before .before .before .before .before .before .before .before .pre) (c .before .before .before .before .before .before .before .before .before .before .before .before .before .before .before .cover .ensures) (c .before .before .before .before .before .before .before .before .before .before .judge-rows .ensures) (c .before .before .before .before .before .before .before .before .enum-told .given .1) (λ i. omega (arith, c .before .before .before .before .before .before .before .before .before .before .before .before .before .before .before .before .before .before .before .before .before .before .shared-slice-known .given i)) (c .before .before .before .before .before .count-objects .ensures) _ (c .judge-rows2 .ensures)
+
+pub home-rules-spec : {M : Type 1} → statement M
+home-rules-spec =
+    tie.close
+    (tie.spec
+    cover-requires
+    judge-rows-requires
+    enum-known-residence
+    same-length
+    same-length-2
+    returns
+    enum-told
+    count-objects-requires
+    judge-rows-requires-2
+    same-length-3
+    same-length-4
+    returns-2)
