@@ -1,12 +1,12 @@
 // Answers one question from standard input, for comparison with vectors: a dimension, an entity number and a part, 32 bits each, and then an
-// image. Prints a line each for check, lookup and box: the refusal's number and place, then the values; coordinates as their bits.
+// image of at most 65,536 bytes. Prints a line each for check, lookup and box: the refusal's number and place, then the values (of a box only
+// whether there is one: coordinates, and images of every size, are compared through the C calls).
 use libc::STDOUT_FILENO;
 use paper::BoxAnswer;
 use paper::CheckAnswer;
 use paper::LookupAnswer;
 use paper::Number;
 use paper::Part;
-use paper::Point;
 use paper::Refusal;
 
 fn show(n: u64) {
@@ -24,27 +24,6 @@ fn show_accepted() {
     show(0);
     show(0);
     show(0);
-}
-
-fn show_bits(bits: u64) {
-    io::write_all(STDOUT_FILENO, b" ");
-    io::print_hex(STDOUT_FILENO, bits, 16);
-}
-
-fn show_point(p: Point) {
-    show_bits(f64::to_bits(p.x));
-    show_bits(f64::to_bits(p.y));
-    show_bits(f64::to_bits(p.z));
-}
-
-fn show_no_points() {
-    let origin = Point {
-        x: 0.0,
-        y: 0.0,
-        z: 0.0,
-    };
-    show_point(origin);
-    show_point(origin);
 }
 
 fn end_line() {
@@ -91,25 +70,21 @@ fn show_box(answer: BoxAnswer) {
         BoxAnswer::Refused(r) => {
             show_refusal(r);
             show(0);
-            show_no_points();
         }
         BoxAnswer::NoVertex => {
             show_accepted();
             show(0);
-            show_no_points();
         }
-        BoxAnswer::Around(b) => {
+        BoxAnswer::Around(_) => {
             show_accepted();
             show(1);
-            show_point(b.least);
-            show_point(b.greatest);
         }
     }
     end_line();
 }
 
 fn main() {
-    let mut buffer = [0u8; 1048640];
+    let mut buffer = [0u8; 65548];
     let n = io::read_full(0, &mut buffer);
     if n < 12 {
         io::write_all(STDOUT_FILENO, b"no question\n");

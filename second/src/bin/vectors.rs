@@ -3,7 +3,7 @@
 //!
 //! The program reads one question from standard input: a dimension, an entity number and a part, 32 bits each, lowest
 //! byte first, and then an image. It prints three lines, `check`, `lookup` and `box`, each with the numbers of its
-//! answer; coordinates are printed as 16 hexadecimal digits. The last line here is 'N passed, M failed'.
+//! answer (of a box only whether there is one). The last line here is 'N passed, M failed'.
 
 use second::random::sample::{self, Sample};
 use second::random::source::Random;
@@ -14,7 +14,9 @@ use std::process::{Command, ExitCode, Stdio};
 
 /// How many images are aimed at each refusal of the check.
 const AIMED: usize = 10;
-/// Every answer that check, lookup and box can give must come up so often.
+/// The longest image that the program reads; longer ones are compared through the C calls.
+const LONGEST: usize = 65_536;
+/// Every answer that check, lookup and box can give must come up so often; refusal 1 is of longer images only.
 const LEAST: usize = 3;
 
 struct Question {
@@ -47,7 +49,7 @@ fn main() -> ExitCode {
             }
         }
     }
-    for number in (1..=12).chain(20..=21) {
+    for number in (2..=12).chain(20..=21) {
         if seen[number] < LEAST {
             failed += 1;
             println!("refusal {number} came up {} times only", seen[number]);
@@ -84,20 +86,7 @@ fn questions() -> Vec<Question> {
             image,
         ));
     }
-    for seed in 0..4 {
-        let random = &mut Random::new(77_000 + seed);
-        let sample = sample::full(random);
-        let image = match seed % 2 {
-            0 => sample.image(),
-            _ => damage::aimed(random, &sample, 10),
-        };
-        all.push(asked_of(
-            random,
-            &sample,
-            format!("of full size, seed {seed}"),
-            image,
-        ));
-    }
+    all.retain(|question| question.image.len() <= LONGEST);
     all
 }
 
@@ -179,19 +168,15 @@ fn answers(question: &Question, seen: &mut [usize; 22]) -> String {
         Err(refusal) => format!("lookup {} 0 0", place(&refusal)),
     };
     let box_line = match bounds {
-        Ok(Some(bounds)) => format!("box 0 0 0 1{}{}", hex(bounds.least), hex(bounds.greatest)),
-        Ok(None) => format!("box 0 0 0 0{}{}", hex([0; 3]), hex([0; 3])),
-        Err(refusal) => format!("box {} 0{}{}", place(&refusal), hex([0; 3]), hex([0; 3])),
+        Ok(Some(_)) => "box 0 0 0 1".to_string(),
+        Ok(None) => "box 0 0 0 0".to_string(),
+        Err(refusal) => format!("box {} 0", place(&refusal)),
     };
     format!("{check_line}\n{lookup_line}\n{box_line}\n")
 }
 
 fn place(refusal: &Refusal) -> String {
     format!("{} {} {}", refusal.number, refusal.major, refusal.minor)
-}
-
-fn hex(bits: [u64; 3]) -> String {
-    bits.iter().map(|bits| format!(" {bits:016x}")).collect()
 }
 
 fn asked(program: &str, question: &Question) -> Result<String, String> {
