@@ -24,7 +24,7 @@ use Rattle.sound.specs.declared.Judged.{Judged}
 use Rattle.sound.specs.declared.Examined.{Examined}
 use Rattle.sound.specs.declared.Examined.the-variants.{Refused, Sound}
 use Rattle.sound.specs.Ready.{Tabled, CopiesAhead, HomesAhead, Rooms}
-use Rattle.sound.specs.Stages.{UpTo, CopiesJudged, HomesJudged, AllJudged, SoundImage, Says, Examines}
+use Rattle.sound.specs.Stages.{UpTo, AllJudged, SoundImage, Says, Examines}
 use Rattle.sound.proofs.Passes.{homes-stop, not-go}
 use Rattle.sound.proofs.Stages.{stopped, gone, all-pass}
 

@@ -1,12 +1,12 @@
 -- The nested loops that look for the first fault, on plain values, for any set and any test `ok` of row s of part p. Assumes nothing.
-use Prim.Native.Nat.{ℕ, zero, suc, _+_, _-_, _≤_, _<_}
+use Prim.Native.Nat.{ℕ, suc, _+_, _-_, _≤_, _<_}
 use native.Mathlib.Nat.{not-suc-le-zero, eq-or-lt-of-le}
 use native.Mathlib.Numerals.{add-one}
 use native.Mathlib.Omega.{arith}
 use mathlib.Core.Path.{_≡_, refl, sym, ap, _∙_}
 use mathlib.Core.Bool.{Bool, true, false, not}
 use mathlib.Core.Logic.{⊎-elim}
-use mathlib.Core.List.{List, []}
+use mathlib.Core.List.{[]}
 use mathlib.Core.Option.{Option, none, some}
 use lib.ListN.{length, getD, drop, drop-of-length-le}
 use lib.Seq.{drop-cons}
@@ -15,7 +15,7 @@ use borrow.Author.Tests.{not-true, not-false}
 use Rattle.laws.specs.Lists.{from, upTo, firstBad}
 use Rattle.laws.proofs.Tests.{true-T}
 use Rattle.paper.specs.Outcome.{Place}
-use Rattle.paper.specs.Image.{Row, Set}
+use Rattle.paper.specs.Image.{Set}
 use Rattle.paper.specs.Sound.{firstFault}
 use Rattle.sound.specs.declared.Fault.{Fault}
 use Rattle.sound.specs.declared.Fault.the-variants.{None, At}

@@ -8,7 +8,6 @@ use lib.ListN.{getD}
 use Rattle.paper.specs.declared.Refusal.{Refusal}
 use Rattle.paper.specs.declared.Part.{Part}
 use Rattle.paper.specs.declared.Slot.{Slot}
-use Rattle.paper.specs.Image.{Set}
 use Rattle.paper.specs.Sound.{firstFault}
 use Rattle.index.specs.Index.{setIn}
 use Rattle.rules.specs.declared.Rule.the-variants.{Fields, Order, Twins, Copies, Owner}

@@ -15,7 +15,8 @@ ghost use Rattle.sound.specs.Faults.{faultPlace};
 ghost use Rattle.sound.specs.Ready.{Tabled, Ready, Due, CopiesAhead, HomesAhead, Rooms};
 ghost use Rattle.sound.specs.Stages.{ruleOf, UpTo, CopiesJudged, HomesJudged, AllJudged, Examines};
 
-pub enum Fault {
+// The first row that breaks a rule, if one does.
+enum Fault {
     None,
     At(Part, Slot),
 }
@@ -73,7 +74,8 @@ fn judge(
     }
 }
 
-pub fn first_fault(
+// The first row, by part and then by slot, that breaks the rule.
+fn first_fault(
     rule: Rule,
     image: &[u8],
     offs: &[u32],

@@ -23,7 +23,10 @@ enum-told : tie.Need-enum-told
 enum-told c = search needs
 
 copy-rule-requires : tie.Need-copy-rule-requires
-copy-rule-requires c κs = let pre = c .before .before .before .before .before .before .before .before .before .before .before .before .before .before .before .pre in copies-ahead (pre .0) (pre .1) (c .before .before .before .before .before .shape-rules .ensures) (c .before .before .before .enum-told .given .1)
+copy-rule-requires c κs =
+    let told = c .before .before .before in
+    let shape = told .before .before in
+    let pre = shape .before .before .before .before .before .before .before .before .before .before .pre in copies-ahead (pre .0) (pre .1) (shape .shape-rules .ensures) (told .enum-told .given .1)
 
 enum-known-stage : tie.Need-enum-known-stage
 enum-known-stage c = search needs
@@ -44,7 +47,10 @@ enum-told-2 : tie.Need-enum-told-2
 enum-told-2 c = search needs
 
 home-rules-requires : tie.Need-home-rules-requires
-home-rules-requires c κs = let pre = c .before .before .before .before .before .before .before .before .before .before .before .before .before .before .before .before .before .before .before .before .before .before .pre in homes-ahead (pre .0) (pre .1) (c .before .before .before .before .before .before .copy-rule .ensures .answer) (c .before .before .enum-told2 .given .1)
+home-rules-requires c κs =
+    let told = c .before .before in
+    let copied = told .before .before .before .before in
+    let pre = copied .before .before .before .before .before .before .before .before .before .before .before .before .before .before .before .before .pre in homes-ahead (pre .0) (pre .1) (copied .copy-rule .ensures .answer) (told .enum-told2 .given .1)
 
 same-length-6 : tie.Need-same-length-6
 same-length-6 c = search needs
@@ -56,7 +62,11 @@ same-length-8 : tie.Need-same-length-8
 same-length-8 c = search needs
 
 returns-3 : tie.Need-returns-3
-returns-3 c = record { homes = c .before .before .before .before .home-rules .ensures; listed = λ go. c .before .before .before .before .before .before .before .before .before .before .before .copy-rule .ensures .listed (c .before .before .before .before .before .before .before .enum-told2 .given .1) }
+returns-3 c =
+    let homes = c .before .before .before .before in
+    let told = homes .before .before .before in
+    let copied = told .before .before .before .before in
+    record { homes = homes .home-rules .ensures; listed = λ go. copied .copy-rule .ensures .listed (told .enum-told2 .given .1) }
 
 pub all-rules-spec : {M : Type 1} → statement M
 all-rules-spec =

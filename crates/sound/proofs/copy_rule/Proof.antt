@@ -18,7 +18,10 @@ judge-rows-requires : tie.Need-judge-rows-requires
 judge-rows-requires c κs = let ahead = c .before .before .before .before .before .before .before .before .before .before .before .pre in (early (ahead .tables) Copies (omega arith) (ahead .passed), refl)
 
 returns : tie.Need-returns
-returns c = twins-fail (c .before .before .before .before .before .before .before .before .before .before .before .before .pre) _ (c .before .before .before .before .first-fault .ensures) _ _ (c .before .before .twins .given .1) _ (c .judge-rows .ensures)
+returns c =
+    let told = c .before .before in
+    let twins = told .before .before in
+    twins-fail (twins .before .before .before .before .before .before .before .before .pre) _ (twins .first-fault .ensures) _ _ (told .twins .given .1) _ (c .judge-rows .ensures)
 
 enum-told : tie.Need-enum-told
 enum-told c = search needs
@@ -33,7 +36,11 @@ same-length : tie.Need-same-length
 same-length c = search needs
 
 returns-2 : tie.Need-returns-2
-returns-2 c = names-distinct (c .before .before .before .before .before .before .before .before .before .before .before .before .before .before .before .before .before .pre) (c .before .before .before .before .entities .ensures) _ (c .before .before .before .before .before .before .before .before .before .first-fault .ensures) (c .before .before .before .before .before .before .before .enum-told .given .1) (c .if1 .taken)
+returns-2 c =
+    let listed = c .before .before .before .before in
+    let told = listed .before .before .before in
+    let twins = told .before .before in
+    names-distinct (twins .before .before .before .before .before .before .before .before .pre) (listed .entities .ensures) _ (twins .first-fault .ensures) (told .enum-told .given .1) (c .if1 .taken)
 
 judge-rows-requires-2 : tie.Need-judge-rows-requires-2
 judge-rows-requires-2 c κs = let ahead = c .before .before .before .before .before .before .before .before .before .before .before .before .before .before .before .before .before .pre in (early (ahead .tables) Copies (omega arith) (ahead .passed), refl)
@@ -42,7 +49,9 @@ same-length-2 : tie.Need-same-length-2
 same-length-2 c = search needs
 
 returns-3 : tie.Need-returns-3
-returns-3 c = names-judged (c .before .before .before .before .before .before .before .before .before .before .before .before .before .before .before .before .before .before .pre) (c .before .before .before .before .before .entities .ensures) _ (c .judge-rows2 .ensures)
+returns-3 c =
+    let listed = c .before .before .before .before .before in
+    names-judged (listed .before .before .before .before .before .before .before .before .before .before .before .before .before .pre) (listed .entities .ensures) _ (c .judge-rows2 .ensures)
 
 pub copy-rule-spec : {M : Type 1} → statement M
 copy-rule-spec =

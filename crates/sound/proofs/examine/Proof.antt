@@ -33,13 +33,22 @@ same-length-3 : tie.Need-same-length-3
 same-length-3 c = search needs
 
 returns-2 : tie.Need-returns-2
-returns-2 c = walk-refused _ _ _ _ _ _ (sym (c .before .before .before .before .before .before .before .before .before .before .before .before .before .head .ensures) ∙ c .before .before .before .before .before .before .before .before .before .before .before .before .if1 .left) (not-whole (c .before .before .before .before .before .before .before .before .walk .ensures) (c .enum-told .given .1))
+returns-2 c =
+    let walk = c .before .before .before .before .before .before .before .before in
+    let passed = walk .before .before .before .before in
+    walk-refused _ _ _ _ _ _ (sym (passed .before .head .ensures) ∙ passed .if1 .left) (not-whole (walk .walk .ensures) (c .enum-told .given .1))
 
 byte-at-requires : tie.Need-byte-at-requires
-byte-at-requires c κs = omega (arith, headed _ (sym (c .before .before .before .before .before .before .before .before .before .before .before .before .before .before .head .ensures) ∙ c .before .before .before .before .before .before .before .before .before .before .before .before .before .if1 .left) .long)
+byte-at-requires c κs =
+    let passed = c .before .before .before .before .before .before .before .before .before .before .before .before .before in
+    omega (arith, headed _ (sym (passed .before .head .ensures) ∙ passed .if1 .left) .long)
 
 all-rules-requires : tie.Need-all-rules-requires
-all-rules-requires c κs = (tables-of (whole (c .before .before .before .before .before .before .before .before .before .before .before .before .before .before .before .before .walk .ensures) (c .before .before .before .before .before .before .before .before .walked .given .1)) (c .before .before .before .before .before .before .byte-at .ensures .0), rooms-kept (c .before .before .before .before .before .before .before .before .before .before .before .before .before .before .before .before .before .before .before .before .before .before .before .before .before .before .before .before .before .pre) (c .before .before .before .before .before .before .before .before .before .before .before .before .before .before .before .before .walk .ensures))
+all-rules-requires c κs =
+    let count = c .before .before .before .before .before .before in
+    let told = count .before .before in
+    let walk = told .before .before .before .before .before .before .before .before in
+    (tables-of (whole (walk .walk .ensures) (told .walked .given .1)) (count .byte-at .ensures .0), rooms-kept (walk .before .before .before .before .before .before .before .before .before .before .before .before .before .pre) (walk .walk .ensures))
 
 enum-known-stage : tie.Need-enum-known-stage
 enum-known-stage c = search needs
@@ -66,7 +75,13 @@ same-length-9 : tie.Need-same-length-9
 same-length-9 c = search needs
 
 returns-3 : tie.Need-returns-3
-returns-3 c = rules-refused (whole (c .before .before .before .before .before .before .before .before .before .before .before .before .before .before .before .before .before .before .before .before .before .before .before .before .before .before .walk .ensures) (c .before .before .before .before .before .before .before .before .before .before .before .before .before .before .before .before .before .before .walked .given .1)) (c .before .before .before .before .before .before .before .before .before .before .before .before .before .before .before .before .byte-at .ensures .0) (sym (c .before .before .before .before .before .before .before .before .before .before .before .before .before .before .before .before .before .before .before .before .before .before .before .before .before .before .before .before .before .before .before .head .ensures) ∙ c .before .before .before .before .before .before .before .before .before .before .before .before .before .before .before .before .before .before .before .before .before .before .before .before .before .before .before .before .before .before .if1 .left) (c .before .before .before .before .before .before .before .before .before .all-rules .ensures) _ (c .before .stage .given .1)
+returns-3 c =
+    let rules = c .before .before .before .before .before .before .before .before .before in
+    let count = rules .before .before .before .before .before .before .before in
+    let told = count .before .before in
+    let walk = told .before .before .before .before .before .before .before .before in
+    let passed = walk .before .before .before .before in
+    rules-refused (whole (walk .walk .ensures) (told .walked .given .1)) (count .byte-at .ensures .0) (sym (passed .before .head .ensures) ∙ passed .if1 .left) (rules .all-rules .ensures) _ (c .before .stage .given .1)
 
 same-length-10 : tie.Need-same-length-10
 same-length-10 c = search needs
@@ -87,7 +102,13 @@ same-length-15 : tie.Need-same-length-15
 same-length-15 c = search needs
 
 returns-4 : tie.Need-returns-4
-returns-4 c = rules-sound (whole (c .before .before .before .before .before .before .before .before .before .before .before .before .before .before .before .before .before .before .before .before .before .before .before .before .before .walk .ensures) (c .before .before .before .before .before .before .before .before .before .before .before .before .before .before .before .before .before .walked .given .1)) (c .before .before .before .before .before .before .before .before .before .before .before .before .before .before .before .byte-at .ensures .0) (sym (c .before .before .before .before .before .before .before .before .before .before .before .before .before .before .before .before .before .before .before .before .before .before .before .before .before .before .before .before .before .before .head .ensures) ∙ c .before .before .before .before .before .before .before .before .before .before .before .before .before .before .before .before .before .before .before .before .before .before .before .before .before .before .before .before .before .if1 .left) (c .before .before .before .before .before .before .before .before .all-rules .ensures) (c .enum-told2 .given .1)
+returns-4 c =
+    let rules = c .before .before .before .before .before .before .before .before in
+    let count = rules .before .before .before .before .before .before .before in
+    let told = count .before .before in
+    let walk = told .before .before .before .before .before .before .before .before in
+    let passed = walk .before .before .before .before in
+    rules-sound (whole (walk .walk .ensures) (told .walked .given .1)) (count .byte-at .ensures .0) (sym (passed .before .head .ensures) ∙ passed .if1 .left) (rules .all-rules .ensures) (c .enum-told2 .given .1)
 
 pub examine-spec : {M : Type 1} → statement M
 examine-spec =

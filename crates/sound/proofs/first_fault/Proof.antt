@@ -1,6 +1,5 @@
 use Prim.Native.Nat.{_-_}
 use native.Mathlib.Omega.{arith}
-use borrow.Author.Needs.{needs}
 use Rattle.index.specs.Index.{setIn}
 use Rattle.rules.specs.Judged.{judged}
 use Rattle.rules.proofs.rows.Laws.{part-rows}

@@ -12,7 +12,9 @@ cover-requires : tie.Need-cover-requires
 cover-requires c κs = for-cover (c .before .before .before .before .before .before .before .pre)
 
 judge-rows-requires : tie.Need-judge-rows-requires
-judge-rows-requires c κs = let ahead = c .before .before .before .before .before .before .before .before .before .before .before .before .pre in (for-residence (ahead .tables) (ahead .passed) (c .before .before .before .before .cover .ensures .covers), refl)
+judge-rows-requires c κs =
+    let covers = c .before .before .before .before in
+    let ahead = covers .before .before .before .before .before .before .before .before .pre in (for-residence (ahead .tables) (ahead .passed) (covers .cover .ensures .covers), refl)
 
 enum-known-residence : tie.Need-enum-known-residence
 enum-known-residence c = search needs
@@ -30,10 +32,18 @@ enum-told : tie.Need-enum-told
 enum-told c = search needs
 
 count-objects-requires : tie.Need-count-objects-requires
-count-objects-requires c κs = let ahead = c .before .before .before .before .before .before .before .before .before .before .before .before .before .before .before .before .before .pre in countable (ahead .tables .indexed) (c .before .before .before .before .before .before .before .before .before .cover .ensures .covers) (ahead .counts-room)
+count-objects-requires c κs =
+    let covers = c .before .before .before .before .before .before .before .before .before in
+    let ahead = covers .before .before .before .before .before .before .before .before .pre in countable (ahead .tables .indexed) (covers .cover .ensures .covers) (ahead .counts-room)
 
 judge-rows-requires-2 : tie.Need-judge-rows-requires-2
-judge-rows-requires-2 c κs = (owner-ready (c .before .before .before .before .before .before .before .before .before .before .before .before .before .before .before .before .before .before .before .before .before .before .pre) (c .before .before .before .before .before .before .before .before .before .before .before .before .before .before .cover .ensures) (c .before .before .before .before .before .before .before .before .before .judge-rows .ensures) (c .before .before .before .before .before .before .before .enum-told .given .1) (λ i. omega (arith, c .before .before .before .before .before .before .before .before .before .before .before .before .before .before .before .before .before .before .before .before .before .shared-slice-known .given i)) (c .before .before .before .before .count-objects .ensures), refl)
+judge-rows-requires-2 c κs =
+    let counts = c .before .before .before .before in
+    let told = counts .before .before .before in
+    let judged = told .before .before in
+    let covers = judged .before .before .before .before .before in
+    let known = covers .before .before .before .before .before .before .before in
+    (owner-ready (known .before .pre) (covers .cover .ensures) (judged .judge-rows .ensures) (told .enum-told .given .1) (λ i. omega (arith, known .shared-slice-known .given i)) (counts .count-objects .ensures), refl)
 
 same-length-3 : tie.Need-same-length-3
 same-length-3 c = search needs
@@ -42,7 +52,13 @@ same-length-4 : tie.Need-same-length-4
 same-length-4 c = search needs
 
 returns-2 : tie.Need-returns-2
-returns-2 c = homes-judged (c .before .before .before .before .before .before .before .before .before .before .before .before .before .before .before .before .before .before .before .before .before .before .before .pre) (c .before .before .before .before .before .before .before .before .before .before .before .before .before .before .before .cover .ensures) (c .before .before .before .before .before .before .before .before .before .before .judge-rows .ensures) (c .before .before .before .before .before .before .before .before .enum-told .given .1) (λ i. omega (arith, c .before .before .before .before .before .before .before .before .before .before .before .before .before .before .before .before .before .before .before .before .before .before .shared-slice-known .given i)) (c .before .before .before .before .before .count-objects .ensures) _ (c .judge-rows2 .ensures)
+returns-2 c =
+    let counts = c .before .before .before .before .before in
+    let told = counts .before .before .before in
+    let judged = told .before .before in
+    let covers = judged .before .before .before .before .before in
+    let known = covers .before .before .before .before .before .before .before in
+    homes-judged (known .before .pre) (covers .cover .ensures) (judged .judge-rows .ensures) (told .enum-told .given .1) (λ i. omega (arith, known .shared-slice-known .given i)) (counts .count-objects .ensures) _ (c .judge-rows2 .ensures)
 
 pub home-rules-spec : {M : Type 1} → statement M
 home-rules-spec =

@@ -1,0 +1,7 @@
+-- Laws of the writers.
+pub mod Writing
+pub mod Slots
+pub mod Faces
+pub mod Rows
+pub mod Parts
+pub mod Right
