@@ -4,13 +4,16 @@ use mathlib.Core.Path.{_≡_}
 use mathlib.Core.Bool.{Bool, true, not, _&&_, _||_}
 use mathlib.Core.List.{List, [], map}
 use lib.ListN.{length, getD}
-use lib.Dec.{eqb}
+use lib.Dec.{T, eqb}
+use lib.Ieee.{isNan}
 use Rattle.laws.specs.Lists.{In, every, upTo, member, same}
 use Rattle.field.specs.Bytes.{u32At, longs}
 use Rattle.part_set.specs.Masks.{has, others}
 use Rattle.paper.specs.Image.{Row, Set, rowLength, rowAt}
 use Rattle.paper.specs.Mesh.{sameEnt, entOf}
-use Rattle.paper.specs.Sound.{nameOfRow}
+use Rattle.paper.specs.Sound.{nameOfRow, valueFits}
+use Rattle.paper.specs.declared.Value.{Value}
+use Rattle.paper.specs.declared.Value.the-variants as value
 use Rattle.index.specs.Index.{rowFrom, setIn, Indexed, Named}
 use Rattle.index.specs.Find.{Searchable}
 use Rattle.rules.specs.Judged.{PassedBelow}
@@ -25,6 +28,23 @@ pub record Ready (b offs starts keys : List ℕ) : Type 0 where
 pub record TwinAsked (b : List ℕ) (p s q : ℕ) : Type 0 where
   pub there : s < length (getD (setIn b) p [])
   pub other : In q (others (rowAt (setIn b) p s .mask) p)
+
+-- ---- an entity's value
+
+-- a kind and its eight bytes stand for a value
+pub record ValueStands (kind bits : ℕ) : Type 0 where
+  pub few : kind ≤ 2
+  pub fits : T (valueFits kind bits)
+
+-- a row's kind and value do so, as rule 7 wants
+abbrev pub RowValueStands : Row → Type 0
+RowValueStands r = ValueStands (r .kind) (r .value)
+
+-- a real is no NaN
+abbrev pub Plain : Value → Type 0
+Plain value.Nothing = Unit {0}
+Plain (value.Whole n) = Unit {0}
+Plain (value.Real x) = T (not (isNan x))
 
 -- ---- the tests of two rows
 

@@ -1,5 +1,6 @@
 // Rule 10: the copies of a row that its residence set names agree with it, and every part that holds the entity is in the set.
 use crate::rows;
+use crate::values;
 use index::Found;
 use paper::Part;
 use paper::Slot;
@@ -14,7 +15,7 @@ ghost use Rattle.index.specs.Index.{rowFrom, setIn};
 ghost use Rattle.index.specs.Find.{Searchable};
 ghost use Rattle.rules.specs.declared.Rule.the-variants.{Twins, Copies};
 ghost use Rattle.rules.specs.Judged.{judged};
-ghost use Rattle.rules.specs.Copies.{Ready, TwinAsked, sameFields, NameCompared, facesAgree, shapesAgree, ShapeThere, sameCopy, RemoteThere, partKeys, holdersListed, AllSearchable};
+ghost use Rattle.rules.specs.Copies.{Ready, TwinAsked, RowValueStands, sameFields, NameCompared, facesAgree, shapesAgree, ShapeThere, sameCopy, RemoteThere, partKeys, holdersListed, AllSearchable};
 
 // Do the rows at `at` and `to` have one name?
 fn same_name(image: &[u8], at: usize, to: usize) -> bool
@@ -31,13 +32,18 @@ fn same_name(image: &[u8], at: usize, to: usize) -> bool
 // Do they have equal kinds, values, residence sets and owners?
 fn same_fields(image: &[u8], at: usize, to: usize) -> bool
     requires { ⌜ (at + 48 ≤ length (now image)) × (to + 48 ≤ length (now image)) ⌝ }
+    requires { ⌜ RowValueStands (rowFrom (now image) at) ⌝ }
+    requires { ⌜ RowValueStands (rowFrom (now image) to) ⌝ }
     ensures { λ r. ⌜ r ≡ sameFields (rowFrom (now (image .entry)) at) (rowFrom (now (image .entry)) to) ⌝ }
 {
-    let kind = field::byte_at(image, at + 6) == field::byte_at(image, to + 6);
-    let value = field::long_at(image, at + 16) == field::long_at(image, to + 16);
+    let kind = field::byte_at(image, at + 6);
+    let to_kind = field::byte_at(image, to + 6);
+    let bits = field::long_at(image, at + 16);
+    let to_bits = field::long_at(image, to + 16);
+    let value = values::one_value(kind, bits, to_kind, to_bits);
     let mask = field::long_at(image, at + 8) == field::long_at(image, to + 8);
     let owner = field::byte_at(image, at + 5) == field::byte_at(image, to + 5);
-    kind & value & mask & owner
+    value & mask & owner
 }
 
 // Do two vertices have equal coordinates, bit for bit?

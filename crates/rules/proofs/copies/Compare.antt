@@ -2,7 +2,7 @@
 use Prim.Native.Nat.{ℕ, _+_, _*_, _^_, _<_}
 use native.Mathlib.Nat.{le-refl}
 use native.Mathlib.Omega.{arith}
-use mathlib.Core.Path.{_≡_, refl, sym, ap, ap₂, _∙_}
+use mathlib.Core.Path.{_≡_, refl, sym, ap, ap₂, _∙_, subst}
 use mathlib.Core.Bool.{Bool, true, false, _&&_}
 use mathlib.Core.List.{List}
 use lib.ListN.{getD}
@@ -14,7 +14,7 @@ use Rattle.field.specs.Bytes.{u8At, u32At, u64At, longs}
 use Rattle.paper.specs.Mesh.{nameOf}
 use Rattle.index.specs.Index.{rowFrom}
 use Rattle.index.proofs.RowFields.{row-number, row-dim, row-owner, row-kind, row-mask, row-value, row-long}
-use Rattle.rules.specs.Copies.{sameFields, NameCompared, faceKey}
+use Rattle.rules.specs.Copies.{ValueStands, RowValueStands, sameFields, NameCompared, faceKey}
 
 -- numbers and dimensions are equal where the names are
 names-equal : (k d k′ d′ : ℕ) → k < 2 ^ 32 → k′ < 2 ^ 32 → (eqb k k′ && eqb d d′) ≡ eqb (nameOf d k) (nameOf d′ k′)
@@ -24,6 +24,13 @@ names-equal k d k′ d′ h h′ =
     (λ t.
     let e = eqb→eq (nameOf d k) (nameOf d′ k′) t in
     join2 (eqb k k′) (eqb d d′) (eq-eqb k k′ (omega arith), eq-eqb d d′ (omega arith)))
+
+-- what is read at o is the kind and the value of the row there
+pub value-read : (b : List ℕ) (o : ℕ) {k v : ℕ} → k ≡ u8At b (o + 6) → v ≡ u64At b (o + 16) → RowValueStands (rowFrom b o) → ValueStands k v
+value-read b o {k} {v} ek ev stands =
+    let kind = row-kind b o ∙ sym ek in
+    let value = row-value b o ∙ sym ev in
+    subst (λ (x : ℕ). ValueStands x v) kind (subst (λ (y : ℕ). ValueStands (rowFrom b o .kind) y) value stands)
 
 module _ (b : List ℕ) (o o′ : ℕ) where
   pub name-read : {k d k′ d′ : ℕ} → k ≡ u32At b o → d ≡ u8At b (o + 4) → k′ ≡ u32At b o′ → d′ ≡ u8At b (o′ + 4) → k < 2 ^ 32 → k′ < 2 ^ 32
@@ -37,12 +44,12 @@ module _ (b : List ℕ) (o o′ : ℕ) where
         dims = λ e. sym f ∙ eqb→eq d d′ (split2 (eqb k k′) (eqb d d′) (true-T (eqb k k′ && eqb d d′) e) .1) ∙ f′;
       }
 
-  pub fields-compared : {k k′ v v′ m m′ w w′ : ℕ} → k ≡ u8At b (o + 6) → k′ ≡ u8At b (o′ + 6) → v ≡ u64At b (o + 16) → v′ ≡ u64At b (o′ + 16)
-      → m ≡ u64At b (o + 8) → m′ ≡ u64At b (o′ + 8) → w ≡ u8At b (o + 5) → w′ ≡ u8At b (o′ + 5)
-      → (eqb k k′ && eqb v v′ && eqb m m′ && eqb w w′) ≡ sameFields (rowFrom b o) (rowFrom b o′)
+  pub fields-compared : {k k′ v v′ m m′ w w′ : ℕ} {value : Bool} → value ≡ (eqb k k′ && eqb v v′) → k ≡ u8At b (o + 6) → k′ ≡ u8At b (o′ + 6)
+      → v ≡ u64At b (o + 16) → v′ ≡ u64At b (o′ + 16) → m ≡ u64At b (o + 8) → m′ ≡ u64At b (o′ + 8) → w ≡ u8At b (o + 5) → w′ ≡ u8At b (o′ + 5)
+      → (value && eqb m m′ && eqb w w′) ≡ sameFields (rowFrom b o) (rowFrom b o′)
   unfolding sameFields
-  fields-compared ek ek′ ev ev′ em em′ ew ew′ =
-      ap₂ _&&_ (ap₂ _&&_ (ap₂ _&&_
+  fields-compared same-value ek ek′ ev ev′ em em′ ew ew′ =
+      ap₂ _&&_ (ap₂ _&&_ (same-value ∙ ap₂ _&&_
       (ap₂ eqb (ek ∙ sym (row-kind b o)) (ek′ ∙ sym (row-kind b o′))) (ap₂ eqb (ev ∙ sym (row-value b o)) (ev′ ∙ sym (row-value b o′))))
       (ap₂ eqb (em ∙ sym (row-mask b o)) (em′ ∙ sym (row-mask b o′)))) (ap₂ eqb (ew ∙ sym (row-owner b o)) (ew′ ∙ sym (row-owner b o′)))
 

@@ -18,7 +18,7 @@ use Rattle.index.specs.Index.{rowFrom, setIn, Indexed, Named}
 use Rattle.index.proofs.RowFields.{row-long-enough}
 use Rattle.rules.specs.declared.Rule.the-variants.{Fields, Order, Boundary}
 use Rattle.rules.specs.Judged.{judged, Passed, PassedBelow}
-use Rattle.rules.specs.Copies.{Ready}
+use Rattle.rules.specs.Copies.{Ready, RowValueStands}
 use Rattle.rules.proofs.rows.Laws.{part-there, row-there}
 
 -- ---- rule 7, as far as it is used here
@@ -27,13 +27,14 @@ pub record RowFits (n p : ℕ) (r : Row) : Type 0 where
   pub dim : r .dim ≤ 3
   pub mask : r .mask < 2 ^ n
   pub own : T (has (r .mask) p)
+  pub value : RowValueStands r
 
 fits-of : (n p : ℕ) (r : Row) → T (fieldsFit n p r) → RowFits n p r
 unfolding fieldsFit
 fits-of n p r t =
     let w = split8 (leb (r .dim) 3) (ltb (r .owner) n) (leb (r .kind) 2) (eqb (r .pad) 0) (ltb (r .mask) (2 ^ n)) (has (r .mask) p)
     (valueFits (r .kind) (r .value)) (bodyFits (r .dim) (r .body)) t in
-    record { dim = leb→le (r .dim) 3 (w .0); mask = ltb→lt (r .mask) (2 ^ n) (w .4); own = w .5 }
+    record { dim = leb→le (r .dim) 3 (w .0); mask = ltb→lt (r .mask) (2 ^ n) (w .4); own = w .5; value = record { few = leb→le (r .kind) 2 (w .2); fits = w .6 } }
 
 pub row-fits : (S : Set) → Passed Fields S → (p s : ℕ) → s < length (getD S p []) → RowFits (length S) p (rowAt S p s)
 unfolding judged
@@ -90,6 +91,9 @@ module _ {b offs starts keys : List ℕ} (ready : Ready b offs starts keys) wher
 
     pub fits : RowFits (length (setIn b)) p (rowAt (setIn b) p s)
     fits = row-fits (setIn b) fields-passed p s (st .there)
+
+    pub value-stands : RowValueStands (rowFrom b o)
+    value-stands = subst RowValueStands (st .row) (fits .value)
 
     pub own-lt : p < length (setIn b)
     own-lt = has-lt (length (setIn b)) (rowAt (setIn b) p s .mask) p (fits .mask) (fits .own)

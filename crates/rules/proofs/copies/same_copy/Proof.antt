@@ -1,7 +1,7 @@
 -- `rules::copies::same_copy` meets its contract: the name first, so that the boundaries have one dimension; then the fields and the shape. Assumes nothing.
 use native.Mathlib.Omega.{arith}
 use borrow.Author.Tests.{not-true, not-false}
-use Rattle.rules.proofs.copies.Placed.{Stands, offset-asked, stands, room-48}
+use Rattle.rules.proofs.copies.Placed.{Stands, offset-asked, stands, room-48, value-stands}
 use Rattle.rules.proofs.copies.Shapes.{shape-there, other-name, other-fields, dim-here, dim-there, copy-shapes}
 use Rattle.rules.proofs.copies.same_copy.Statement.{statement}
 use Rattle.rules.proofs.copies.same_copy.Tie as tie
@@ -41,7 +41,7 @@ same-fields-requires : tie.Need-same-fields-requires
 same-fields-requires c κs =
     let rows = c .before .before in
     let start = rows .before .before .before .before .before .before in
-    (room-48 (start .pre .0) (from rows), room-48 (start .pre .0) (at rows))
+    ((room-48 (start .pre .0) (from rows), room-48 (start .pre .0) (at rows)), (value-stands (start .pre .0) (from rows), value-stands (start .pre .0) (at rows)))
 
 returns-2 : tie.Need-returns-2
 returns-2 c =

@@ -1,6 +1,6 @@
 -- `rules::copies::same_fields` meets its contract: each number that is read is a field of its row. Assumes nothing.
 use borrow.Author.Needs.{needs}
-use Rattle.rules.proofs.copies.Compare.{fields-compared}
+use Rattle.rules.proofs.copies.Compare.{value-read, fields-compared}
 use Rattle.rules.proofs.copies.same_fields.Statement.{statement}
 use Rattle.rules.proofs.copies.same_fields.Tie as tie
 
@@ -28,6 +28,14 @@ add-long-at-2 c = search needs
 long-at-requires-2 : tie.Need-long-at-requires-2
 long-at-requires-2 c κs = search needs
 
+one-value-requires : tie.Need-one-value-requires
+one-value-requires c κs =
+    let start = c .before .before .before .before .before in
+    let a = start .args in (
+      value-read (a .image .now) (a .at) (c .before .before .before .byte-at .ensures .0) (c .before .long-at .ensures) (start .pre .1 .0),
+      value-read (a .image .now) (a .to) (c .before .before .byte-at2 .ensures .0) (c .long-at2 .ensures) (start .pre .1 .1),
+    )
+
 add-long-at-3 : tie.Need-add-long-at-3
 add-long-at-3 c = search needs
 
@@ -54,9 +62,11 @@ byte-at-requires-4 c κs = search needs
 
 returns : tie.Need-returns
 returns c =
-    let a = c .before .before .before .before .before .before .before .before .before .args in
-    fields-compared (a .image .now) (a .at) (a .to) (c .before .before .before .before .before .before .before .byte-at .ensures .0) (c .before .before .before .before .before .before .byte-at2 .ensures .0)
-    (c .before .before .before .before .before .long-at .ensures) (c .before .before .before .before .long-at2 .ensures)
+    let compared = c .before .before .before .before in
+    let a = compared .before .before .before .before .before .before .args in
+    fields-compared (a .image .now) (a .at) (a .to) (compared .one-value .ensures)
+    (compared .before .before .before .before .byte-at .ensures .0) (compared .before .before .before .byte-at2 .ensures .0)
+    (compared .before .before .long-at .ensures) (compared .before .long-at2 .ensures)
     (c .before .before .before .long-at3 .ensures) (c .before .before .long-at4 .ensures) (c .before .byte-at3 .ensures .0) (c .byte-at4 .ensures .0)
 
 pub same-fields-spec : {M : Type 1} → statement M
@@ -71,6 +81,7 @@ same-fields-spec =
     long-at-requires
     add-long-at-2
     long-at-requires-2
+    one-value-requires
     add-long-at-3
     long-at-requires-3
     add-long-at-4
