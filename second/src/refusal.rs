@@ -31,7 +31,7 @@ impl Refusal {
     pub fn at_entry(number: u32, entry: usize) -> Refusal {
         Refusal {
             number,
-            major: entry as u32,
+            major: u32::try_from(entry).unwrap_or(u32::MAX), // an answer has 32 bits for it
             minor: 0,
         }
     }

@@ -2,13 +2,14 @@
 use paper::BoxAnswer;
 use paper::CheckAnswer;
 use paper::LookupAnswer;
+use paper::MigrateAnswer;
 use paper::Number;
 use paper::Part;
 ghost use mathlib.Core.Path.{_≡_};
 ghost use Rattle.paper.specs.Sound.{checkOf};
 ghost use Rattle.paper.specs.Lookup.{lookupOf};
 ghost use Rattle.paper.specs.Box.{boxOf};
-ghost use Rattle.composthum.specs.Numbers.{checkedOf, foundOf, boxedOf};
+ghost use Rattle.composthum.specs.Numbers.{checkedOf, HandsBack, foundOf, boxedOf};
 
 #[repr(C)]
 pub struct Checked {
@@ -17,6 +18,16 @@ pub struct Checked {
     pub minor: u32,
     pub parts: u32,
     pub rows: u32,
+}
+
+#[repr(C)]
+pub struct Migrated {
+    pub refusal: u32,
+    pub major: u32,
+    pub minor: u32,
+    pub length: u32,
+    pub rows: u32,
+    pub moved: u32,
 }
 
 #[repr(C)]
@@ -58,6 +69,40 @@ pub extern "C" fn dmp_check(image: &[u8]) -> Checked
             minor: 0,
             parts: parts,
             rows: rows,
+        },
+    }
+}
+
+#[no_mangle]
+pub extern "C" fn dmp_migrate(
+    image: &[u8],
+    list: &[u8],
+    out: &mut [u8],
+    work: &mut [u64],
+) -> Migrated
+    ensures { λ r. ⌜ HandsBack (now (image .entry)) (now (list .entry)) (now (out .entry)) (now (work .entry)) r (now (out .exit)) (now (work .exit)) ⌝ }
+{
+    let a = migrate::migrate(image, list, out, work);
+    match a {
+        MigrateAnswer::Refused(r) => Migrated {
+            refusal: r.number,
+            major: r.major,
+            minor: r.minor,
+            length: 0,
+            rows: 0,
+            moved: 0,
+        },
+        MigrateAnswer::Moved {
+            length,
+            rows,
+            moved,
+        } => Migrated {
+            refusal: 0,
+            major: 0,
+            minor: 0,
+            length: length,
+            rows: rows,
+            moved: moved,
         },
     }
 }

@@ -1,12 +1,17 @@
 -- One entry under each rule, on plain values. Assumes nothing.
-use Prim.Native.Nat.{ℕ, _+_, _*_, _≤_, _<_}
-use mathlib.Core.Path.{_≡_, refl, sym, ap, _∙_, subst}
-use mathlib.Core.Bool.{Bool, true, false}
-use mathlib.Core.List.{List}
+use Prim.Native.Nat.{ℕ, suc, _+_, _*_, _≤_, _<_}
+use native.Mathlib.Numerals.{add-one}
+use native.Mathlib.Omega.{arith}
+use mathlib.Core.Path.{_≡_, refl, ap, _∙_, subst}
+use mathlib.Core.Bool.{Bool, false}
+use mathlib.Core.Logic.{⊎-elim}
+use mathlib.Core.List.{List, [], _∷_}
+use denote.Enum.Declared.{tagOf}
+use types.Run.{OneOf}
 use lib.ListN.{length, getD}
-use lib.Dec.{T, leb, ltb, eqb, leb→le}
+use lib.Dec.{T, leb, ltb, eqb, leb→le, ltb→lt, eqb→eq}
 use Rattle.laws.specs.Lists.{flat}
-use Rattle.laws.proofs.Tests.{T-true, iff-eq, split4}
+use Rattle.laws.proofs.Tests.{iff-eq, eq-eqb, split4}
 use Rattle.field.specs.Bytes.{u8At, u16At}
 use Rattle.paper.specs.Image.{Set}
 use Rattle.paper.specs.Mesh.{partsOf, isObject, holds}
@@ -14,63 +19,49 @@ use Rattle.paper.specs.Move.{entryName, entryPart, allEntries, ascends, entryFi
 use Rattle.order.specs.Runs.{keyIn}
 use Rattle.moves.specs.declared.EntryRule.{EntryRule}
 use Rattle.moves.specs.declared.EntryRule.the-variants.{Whole, Destination, Entity, Object}
-use Rattle.moves.specs.declared.Sought.{Sought}
-use Rattle.moves.specs.declared.Sought.the-variants.{At, Absent}
-use Rattle.moves.specs.Catalog.{Listing, Found, Catalog}
-use Rattle.moves.specs.Entries.{entryTest, refusalOf, PassedBelow, EntryReady}
-
--- ---- what the search answers
-
-module _ {keys ord : List ℕ} {count : ℕ} (k : Listing keys ord count) where
-  pub found-at : (r : Sought) (j x : ℕ) → r ≡ At j → Found keys ord count x r → (j < count) × (keyIn keys (getD ord j 0) ≡ x)
-  unfolding Found
-  found-at r j x e f = subst (λ (z : Sought). Found keys ord count x z) e f
-
-  pub found-none : (r : Sought) (x : ℕ) → r ≡ Absent → Found keys ord count x r → (j : ℕ) → j < count → keyIn keys (getD ord j 0) ≡ x → ⊥
-  unfolding Found
-  found-none r x e f = subst (λ (z : Sought). Found keys ord count x z) e f
-
-module _ {S : Set} {keys ord covered : List ℕ} {count : ℕ} (c : Catalog S keys ord covered count) where
-  pub entity-there : (r : Sought) (j k x : ℕ) → k ≡ x → r ≡ At j → Found keys ord count k r → true ≡ holds (flat (partsOf S)) x
-  entity-there r j k x n e f =
-      let w = found-at (c .listing) r j k e f in
-      sym (T-true (holds (flat (partsOf S)) x) (subst (λ (z : ℕ). T (holds (flat (partsOf S)) z)) (w .1 ∙ n) (c .held j (w .0))))
-
-  pub entity-missing : (r : Sought) (k x : ℕ) → k ≡ x → r ≡ Absent → Found keys ord count k r → false ≡ holds (flat (partsOf S)) x
-  entity-missing r k x n e f =
-      iff-eq false (holds (flat (partsOf S)) x) (λ t. absurd t) (λ t. let w = c .all x t in absurd (found-none (c .listing) r k e f (w .0) (w .1) (w .2 ∙ sym n)))
-
-  pub object-there : (r : Sought) (j k x : ℕ) → k ≡ x → r ≡ At j → Found keys ord count k r → eqb (getD covered (getD ord j 0) 0) 0 ≡ isObject (flat (partsOf S)) x
-  object-there r j k x n e f = let w = found-at (c .listing) r j k e f in c .object j (w .0) ∙ ap (isObject (flat (partsOf S))) (w .1 ∙ n)
-
-  pub object-missing : (r : Sought) (k x : ℕ) → k ≡ x → r ≡ Absent → Found keys ord count k r → T (holds (flat (partsOf S)) x) → false ≡ isObject (flat (partsOf S)) x
-  object-missing r k x n e f t = let w = c .all x t in absurd (found-none (c .listing) r k e f (w .0) (w .1) (w .2 ∙ sym n))
+use Rattle.moves.specs.Catalog.{Lower}
+use Rattle.moves.specs.Entries.{entryTest, refusalOf, PassedBelow, EntryReady, SweepReady}
+use Rattle.moves.proofs.EntryRule.{the-type}
+use Rattle.moves.proofs.Cursor.{stands}
 
 -- ---- what the rules before gave
 
--- an entry that fits is whole
-pub fits-whole : (l : List ℕ) (i : ℕ) → T (entryFits l i) → 8 * i + 8 ≤ length l
+-- an entry that fits is whole, and comes after the one before it
+fits-after : (l : List ℕ) (i : ℕ) → T (entryFits l i) → (8 * i + 8 ≤ length l) × T (ascends l i)
 unfolding entryFits
-fits-whole l i t =
-    leb→le (8 * i + 8) (length l) (split4 (leb (8 * i + 8) (length l)) (eqb (u16At l (8 * i + 6)) 0) (leb (u8At l (8 * i + 4)) 3) (ascends l i) t .0)
+fits-after l i t =
+    let s = split4 (leb (8 * i + 8) (length l)) (eqb (u16At l (8 * i + 6)) 0) (leb (u8At l (8 * i + 4)) 3) (ascends l i) t in
+    (leb→le (8 * i + 8) (length l) (s .0), s .3)
 
 pub passed-whole : (S : Set) (l : List ℕ) (k : ℕ) → 13 < k → PassedBelow k S l → (i : ℕ) → i < allEntries l → 8 * i + 8 ≤ length l
 unfolding entryTest
-passed-whole S l k h p i g = fits-whole l i (p Whole h i g)
+passed-whole S l k h p i g = fits-after l i (p Whole h i g) .0
+
+pub passed-next : (S : Set) (l : List ℕ) (k : ℕ) → 13 < k → PassedBelow k S l → (i : ℕ) → i + 1 < allEntries l → entryName l i < entryName l (i + 1)
+unfolding entryTest ascends
+passed-next S l k h p i g = rw (add-one i) (ltb→lt (entryName l i) (entryName l (suc i)) (fits-after l (suc i) (p Whole h (suc i) (omega arith)) .1))
 
 pub passed-entity : (S : Set) (l : List ℕ) (k : ℕ) → 15 < k → PassedBelow k S l → (i : ℕ) → i < allEntries l → T (holds (flat (partsOf S)) (entryName l i))
 unfolding entryTest
 passed-entity S l k h p i g = p Entity h i g
 
-module _ {rule : EntryRule} {S : Set} {l keys ord covered : List ℕ} {n count : ℕ} (ready : EntryReady rule S l keys ord covered n count) (i : ℕ) where
-  pub is-whole : (as′ : EntryRule) → rule ≡ as′ → 13 < refusalOf as′ → i < allEntries l → 8 * i + 8 ≤ length l
-  is-whole as′ e h g = passed-whole S l (refusalOf rule) (subst (λ (z : EntryRule). 13 < refusalOf z) (sym e) h) (ready .passed) i g
+-- ---- the rule that is left where a match has ruled one out: the match gives the places of the others among the four
 
-  pub is-held : (as′ : EntryRule) → rule ≡ as′ → 15 < refusalOf as′ → i < allEntries l → T (holds (flat (partsOf S)) (entryName l i))
-  is-held as′ e h g = passed-entity S l (refusalOf rule) (subst (λ (z : EntryRule). 15 < refusalOf z) (sym e) h) (ready .passed) i g
+pub is-destination : (rule : EntryRule) → refusalOf rule < 15 → OneOf (1 ∷ 2 ∷ 3 ∷ []) (tagOf the-type rule) → rule ≡ Destination
+is-destination Whole h t = absurd (⊎-elim (λ e. omega arith) (⊎-elim (λ e. omega arith) (λ e. omega arith)) t)
+is-destination Destination h t = refl
+is-destination Entity h t = absurd (omega arith)
+is-destination Object h t = absurd (omega arith)
 
-  -- ---- the test of each rule
+pub is-entity : (rule : EntryRule) → 14 < refusalOf rule → OneOf (0 ∷ 1 ∷ 2 ∷ []) (tagOf the-type rule) → rule ≡ Entity
+is-entity Whole h t = absurd (omega arith)
+is-entity Destination h t = absurd (omega arith)
+is-entity Entity h t = refl
+is-entity Object h t = absurd (⊎-elim (λ e. omega arith) (⊎-elim (λ e. omega arith) (λ e. omega arith)) t)
 
+-- ---- the rules 13 and 14
+
+module _ {rule : EntryRule} {S : Set} {l : List ℕ} {n : ℕ} (ready : EntryReady rule S l n) (i : ℕ) where
   pub by-whole : (r : Bool) → rule ≡ Whole → r ≡ entryFits l i → r ≡ entryTest rule S l i
   unfolding entryTest
   by-whole r e f = rw e f
@@ -79,10 +70,35 @@ module _ {rule : EntryRule} {S : Set} {l keys ord covered : List ℕ} {n count :
   unfolding entryTest
   by-destination p e f = rw (e, f, ready .parts) refl
 
-  pub by-entity : (r : Bool) → rule ≡ Entity → r ≡ holds (flat (partsOf S)) (entryName l i) → r ≡ entryTest rule S l i
-  unfolding entryTest
-  by-entity r e f = rw e f
+-- ---- the rules 15 and 16, where j is the lower bound of the entry's name
 
-  pub by-object : (r : Bool) → rule ≡ Object → r ≡ isObject (flat (partsOf S)) (entryName l i) → r ≡ entryTest rule S l i
+not-held : (rule : EntryRule) (S : Set) (l : List ℕ) (i : ℕ) → i < allEntries l → 14 < refusalOf rule → PassedBelow (refusalOf rule) S l
+    → (T (holds (flat (partsOf S)) (entryName l i)) → ⊥) → false ≡ entryTest rule S l i
+unfolding entryTest
+not-held Whole S l i g h p none = absurd (omega arith)
+not-held Destination S l i g h p none = absurd (omega arith)
+not-held Entity S l i g h p none = iff-eq false (holds (flat (partsOf S)) (entryName l i)) (λ t. absurd t) (λ t. absurd (none t))
+not-held Object S l i g h p none = absurd (none (passed-entity S l 16 (omega arith) p i g))
+
+module _ {rule : EntryRule} {S : Set} {l keys ord covered : List ℕ} {count : ℕ} (ready : SweepReady rule S l keys ord covered count) (i : ℕ) (g : i < allEntries l) {j : ℕ}
+    (v : Lower keys ord count (entryName l i) j) where
+  pub beyond : j ≡ count → false ≡ entryTest rule S l i
+  beyond e = not-held rule S l i g (ready .late) (ready .passed) (λ t. omega (arith, stands (ready .catalog) v t .0))
+
+  pub row-there : (j ≡ count → ⊥) → (getD ord j 0 < length keys) × (getD ord j 0 < length covered)
+  row-there short = let h : j < count = omega (arith, v .behind .to) in (ready .catalog .listing .row j h, ready .catalog .row j h)
+
+  pub by-entity : (x : ℕ) → rule ≡ Entity → (j ≡ count → ⊥) → x ≡ entryName l i → eqb (keyIn keys (getD ord j 0)) x ≡ entryTest rule S l i
   unfolding entryTest
-  by-object r e f = rw e f
+  by-entity x e short f =
+      let h : j < count = omega (arith, v .behind .to) in
+      let held : ℕ → Bool = holds (flat (partsOf S)) in
+      let key : ℕ = keyIn keys (getD ord j 0) in
+      rw (e, f) (iff-eq (eqb key (entryName l i)) (held (entryName l i))
+      (λ t. subst (λ (z : ℕ). T (held z)) (eqb→eq key (entryName l i) t) (ready .catalog .held j h)) (λ t. eq-eqb key (entryName l i) (stands (ready .catalog) v t .1)))
+
+  pub by-object : rule ≡ Object → eqb (getD covered (getD ord j 0) 0) 0 ≡ entryTest rule S l i
+  unfolding entryTest
+  by-object e =
+      let w = stands (ready .catalog) v (passed-entity S l (refusalOf rule) (rw e (omega arith)) (ready .passed) i g) in
+      rw e (ready .catalog .object j (w .0) ∙ ap (isObject (flat (partsOf S))) (w .1))

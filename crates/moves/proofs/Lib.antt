@@ -1,8 +1,8 @@
--- `Whole`: the test of one entry. `Halves`: the search of a name. `Judging`: one entry under each rule. `Loops`: the first entry that fails.
+-- `Whole`: the test of one entry. `Loops`: the first entry that fails. `Cursor`: a name is sought upwards. `Judging`: one entry under each rule.
 pub mod Whole
-pub mod Halves
-pub mod Judging
 pub mod Loops
+pub mod Cursor
+pub mod Judging
 pub mod FromTables
 pub mod Answers
 pub mod Stages

@@ -12,15 +12,15 @@ use Rattle.laws.proofs.FirstBad.{all-none}
 use Rattle.paper.specs.Outcome.{Outcome, refused, accepted, _>>_, must, unless}
 use Rattle.paper.specs.Image.{Set, rowTotal}
 use Rattle.paper.specs.Sound.{maxImage}
-use Rattle.paper.specs.Move.{allEntries, entriesMust, migrated, sizeSet}
+use Rattle.paper.specs.Move.{allEntries, entryPlace, entriesMust, migrated, sizeSet}
 use Rattle.demands.proofs.Rows.Outcomes.{then-ok}
 use Rattle.moves.specs.declared.EntryRule.{EntryRule}
 use Rattle.moves.specs.declared.EntryRule.the-variants.{Whole, Destination, Entity, Object}
 use Rattle.moves.specs.declared.Bad.{Bad}
 use Rattle.moves.specs.declared.Bad.the-variants.{None, At}
-use Rattle.moves.specs.Entries.{entryTest, badEntry, PassedBelow, EntryReady}
+use Rattle.moves.specs.Entries.{entryTest, badEntry, PassedBelow, EntryReady, SweepReady}
 use Rattle.moves.specs.Catalog.{Catalog}
-use Rattle.moves.proofs.Answers.{entryPlace, Passed, clear-passes, fault-must}
+use Rattle.moves.proofs.Answers.{Passed, clear-passes, fault-must}
 
 -- ---- one rule more has passed
 
@@ -99,32 +99,34 @@ all-pass S l work f =
 
 -- ---- from rule to rule
 
-module _ {S : Set} {l keys ord covered : List ℕ} {n count : ℕ} where
-  pub first-ready : length S ≡ n → Catalog S keys ord covered count → EntryReady Whole S l keys ord covered n count
-  first-ready parts c = record { parts = parts; catalog = c; passed = none-before S l }
+module _ {S : Set} {l : List ℕ} {n : ℕ} where
+  pub first-ready : length S ≡ n → EntryReady Whole S l n
+  first-ready parts = record { early = omega arith; parts = parts; passed = none-before S l }
 
-  module _ (r : EntryReady Whole S l keys ord covered n count) (bad : Bad) where
+  module _ (r : EntryReady Whole S l n) (bad : Bad) where
     pub whole-stops : (i : ℕ) → bad ≡ At i → badEntry bad ≡ firstBad (entryTest Whole S l) (upTo (allEntries l)) → (work : ℕ) → sizeSet S l work ≡ refused 13 (entryPlace i)
     whole-stops i e found = stops-whole S l bad i e found
 
-    pub whole-passes : bad ≡ None → badEntry bad ≡ firstBad (entryTest Whole S l) (upTo (allEntries l)) → EntryReady Destination S l keys ord covered n count
-    whole-passes e found = record { parts = r .parts; catalog = r .catalog; passed = then-whole S l (clear-passes Whole S l bad found e) }
+    pub whole-passes : bad ≡ None → badEntry bad ≡ firstBad (entryTest Whole S l) (upTo (allEntries l)) → EntryReady Destination S l n
+    whole-passes e found = record { early = omega arith; parts = r .parts; passed = then-whole S l (clear-passes Whole S l bad found e) }
 
-  module _ (r : EntryReady Destination S l keys ord covered n count) (bad : Bad) where
+  module _ (r : EntryReady Destination S l n) (bad : Bad) where
     pub destination-stops : (i : ℕ) → bad ≡ At i → badEntry bad ≡ firstBad (entryTest Destination S l) (upTo (allEntries l)) → (work : ℕ) → sizeSet S l work ≡ refused 14 (entryPlace i)
     destination-stops i e found = stops-destination S l bad i e (r .passed) found
 
-    pub destination-passes : bad ≡ None → badEntry bad ≡ firstBad (entryTest Destination S l) (upTo (allEntries l)) → EntryReady Entity S l keys ord covered n count
-    destination-passes e found = record { parts = r .parts; catalog = r .catalog; passed = then-destination S l (r .passed) (clear-passes Destination S l bad found e) }
+    pub destination-passes : {keys ord covered : List ℕ} {count : ℕ} → Catalog S keys ord covered count → bad ≡ None
+        → badEntry bad ≡ firstBad (entryTest Destination S l) (upTo (allEntries l)) → SweepReady Entity S l keys ord covered count
+    destination-passes c e found = record { late = omega arith; catalog = c; passed = then-destination S l (r .passed) (clear-passes Destination S l bad found e) }
 
-  module _ (r : EntryReady Entity S l keys ord covered n count) (bad : Bad) where
+module _ {S : Set} {l keys ord covered : List ℕ} {count : ℕ} where
+  module _ (r : SweepReady Entity S l keys ord covered count) (bad : Bad) where
     pub entity-stops : (i : ℕ) → bad ≡ At i → badEntry bad ≡ firstBad (entryTest Entity S l) (upTo (allEntries l)) → (work : ℕ) → sizeSet S l work ≡ refused 15 (entryPlace i)
     entity-stops i e found = stops-entity S l bad i e (r .passed) found
 
-    pub entity-passes : bad ≡ None → badEntry bad ≡ firstBad (entryTest Entity S l) (upTo (allEntries l)) → EntryReady Object S l keys ord covered n count
-    entity-passes e found = record { parts = r .parts; catalog = r .catalog; passed = then-entity S l (r .passed) (clear-passes Entity S l bad found e) }
+    pub entity-passes : bad ≡ None → badEntry bad ≡ firstBad (entryTest Entity S l) (upTo (allEntries l)) → SweepReady Object S l keys ord covered count
+    entity-passes e found = record { late = omega arith; catalog = r .catalog; passed = then-entity S l (r .passed) (clear-passes Entity S l bad found e) }
 
-  module _ (r : EntryReady Object S l keys ord covered n count) (bad : Bad) where
+  module _ (r : SweepReady Object S l keys ord covered count) (bad : Bad) where
     pub object-stops : (i : ℕ) → bad ≡ At i → badEntry bad ≡ firstBad (entryTest Object S l) (upTo (allEntries l)) → (work : ℕ) → sizeSet S l work ≡ refused 16 (entryPlace i)
     object-stops i e found = stops-object S l bad i e (r .passed) found
 

@@ -1,4 +1,4 @@
--- The entities of a mesh in the order of their names, as rows: the search of a name among them, and what else their tables say.
+-- The entities of a mesh in the order of their names, as rows: where a name stands among them, and what else their tables say.
 -- Assumes nothing.
 use Prim.Native.Nat.{ℕ, _≤_, _<_}
 use mathlib.Core.Path.{_≡_}
@@ -9,8 +9,6 @@ use Rattle.laws.specs.Lists.{flat}
 use Rattle.paper.specs.Image.{Set}
 use Rattle.paper.specs.Mesh.{partsOf, isObject, holds}
 use Rattle.order.specs.Runs.{keyIn}
-use Rattle.moves.specs.declared.Sought.{Sought}
-use Rattle.moves.specs.declared.Sought.the-variants.{At, Absent}
 
 -- the first `count` entries of ord are rows, and their names ascend strictly
 pub record Listing (keys ord : List ℕ) (count : ℕ) : Type 0 where
@@ -18,16 +16,15 @@ pub record Listing (keys ord : List ℕ) (count : ℕ) : Type 0 where
   pub row : (j : ℕ) → j < count → getD ord j 0 < length keys
   pub up : (i j : ℕ) → i < j → j < count → keyIn keys (getD ord i 0) < keyIn keys (getD ord j 0)
 
--- i is the first of them whose name is not below x, or count
-pub record Lower (keys ord : List ℕ) (count x i : ℕ) : Type 0 where
+-- all before i are below x
+pub record Behind (keys ord : List ℕ) (count x i : ℕ) : Type 0 where
   pub to : i ≤ count
   pub below : (j : ℕ) → j < i → keyIn keys (getD ord j 0) < x
-  pub above : (j : ℕ) → i ≤ j → j < count → x ≤ keyIn keys (getD ord j 0)
 
--- what an answer says: the name stands at that place, or at none
-unfoldable pub Found : List ℕ → List ℕ → ℕ → ℕ → Sought → Type 0
-Found keys ord count x (At i) = (i < count) × (keyIn keys (getD ord i 0) ≡ x)
-Found keys ord count x Absent = (j : ℕ) → j < count → keyIn keys (getD ord j 0) ≡ x → ⊥
+-- i is the first of them whose name is not below x, or count
+pub record Lower (keys ord : List ℕ) (count x i : ℕ) : Type 0 where
+  pub behind : Behind keys ord count x i
+  pub above : i < count → x ≤ keyIn keys (getD ord i 0)
 
 -- they are the entities of the set, and a row that is covered is no object
 pub record Catalog (S : Set) (keys ord covered : List ℕ) (count : ℕ) : Type 0 where

@@ -38,8 +38,14 @@ badEntry (At i) = some i
 abbrev pub PassedBelow : ℕ → Set → List ℕ → Type 0
 PassedBelow k S l = (rule : EntryRule) → refusalOf rule < k → (i : ℕ) → i < allEntries l → T (entryTest rule S l i)
 
--- what must stand before a rule is judged: the entities, and that every entry passes the rules before it
-pub record EntryReady (rule : EntryRule) (S : Set) (l keys ord covered : List ℕ) (n count : ℕ) : Type 0 where
+-- what must stand before a rule is judged entry by entry: it is 13 or 14, and every entry passes the rules before it
+pub record EntryReady (rule : EntryRule) (S : Set) (l : List ℕ) (n : ℕ) : Type 0 where
+  pub early : refusalOf rule < 15
   pub parts : length S ≡ n
+  pub passed : PassedBelow (refusalOf rule) S l
+
+-- what must stand before one is judged along the entities: it is 15 or 16, and every entry passes the rules before it
+pub record SweepReady (rule : EntryRule) (S : Set) (l keys ord covered : List ℕ) (count : ℕ) : Type 0 where
+  pub late : 14 < refusalOf rule
   pub catalog : Catalog S keys ord covered count
   pub passed : PassedBelow (refusalOf rule) S l

@@ -1,6 +1,6 @@
 -- Migration (document 01, "The move"): the list, what it does to the placement, the refusals 13 to 19, and both buffers afterwards.
 -- Sizing is all of it but the output: it gives 1 to 18 and the result numbers. Assumes nothing.
-use Prim.Native.Nat.{ℕ, zero, suc, _+_, _*_, _/_}
+use Prim.Native.Nat.{ℕ, zero, suc, _+_, _-_, _*_, _/_, _^_}
 use mathlib.Core.Bool.{Bool, true, not, _&&_, cond}
 use mathlib.Core.List.{List, [], _∷_, _++_}
 use mathlib.Core.Option.{Option, none, some, Option·getD}
@@ -10,7 +10,7 @@ use Rattle.paper.specs.Sound
 use Rattle.paper.specs.Placement
 use Rattle.laws.specs.Lists.{flat, upTo, firstBad}
 use Rattle.field.specs.Bytes.{u8At, u16At, u32At}
-use Rattle.paper.specs.Outcome.{Outcome, refused, accepted, _>>=_, _>>_, must, unless}
+use Rattle.paper.specs.Outcome.{Outcome, Place, refused, accepted, _>>=_, _>>_, must, unless}
 use Rattle.paper.specs.Image.{Set, rowTotal}
 use Rattle.paper.specs.Mesh.{nameOf, partsOf, meshOf, isObject, holds}
 use Rattle.paper.specs.Sound.{maxImage, soundOf}
@@ -36,9 +36,13 @@ unfoldable pub ascends : List ℕ → ℕ → Bool
 ascends l zero = true
 ascends l (suc i) = ltb (entryName l i) (entryName l (suc i))
 
+-- An answer has 32 bits for the number of an entry: one from 2^32 on, in a list of 32 GiB, is given as 2^32 - 1.
+abbrev pub entryPlace : ℕ → Place
+entryPlace i = record { major = cond (ltb i (2 ^ 32)) i (2 ^ 32 - 1); minor = 0 }
+
 -- refusal k at the first entry that fails
 unfoldable pub entriesMust : ℕ → List ℕ → (ℕ → Bool) → Outcome (Unit {0})
-entriesMust k l ok = unless k (elim (firstBad ok (upTo (allEntries l))) [ none ↦ none | some i ↦ some (record { major = i; minor = 0 }) ])
+entriesMust k l ok = unless k (elim (firstBad ok (upTo (allEntries l))) [ none ↦ none | some i ↦ some (entryPlace i) ])
 
 -- whole, its two zeros zero, dimension at most 3, and after the entry before it
 unfoldable pub entryFits : List ℕ → ℕ → Bool

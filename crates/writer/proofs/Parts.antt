@@ -1,102 +1,109 @@
 -- The rows of a part, written one after another.
 -- Assumes nothing.
-use Prim.Native.Nat.{ℕ, zero, suc, _+_, _-_, _≤_, _<_}
+use Prim.Native.Nat.{ℕ, suc, _+_, _≤_, _<_}
 use native.Mathlib.Omega.{arith}
-use mathlib.Core.Path.{_≡_, refl, ap, _∙_}
-use mathlib.Core.Bool.{Bool, true, false, cond}
+use mathlib.Core.Path.{_≡_, refl, sym, ap, _∙_, subst}
 use mathlib.Core.List.{List, [], _∷_, _++_, map}
-use lib.ListN.{length, getD, length-append}
-use lib.Seq.{sets}
-use Rattle.laws.specs.Lists.{keep, flat, from, upTo}
+use lib.ListN.{length, getD, take, drop, length-map, length-append, drop-of-length-le}
+use lib.Seq.{sets, drop-cons}
+use Rattle.laws.specs.Lists.{flat}
+use Rattle.laws.proofs.Agree.{map-of-map}
 use Rattle.field.specs.Bytes.{bytesOf}
 use Rattle.field.proofs.Numbers.{length-bytes}
-use Rattle.field.proofs.Stores.{sets-then}
-use Rattle.part_set.specs.Masks.{has, count}
+use Rattle.field.proofs.Stores.{sets-then, length-run, getD-run}
 use Rattle.paper.specs.Image.{Row, rowBytes, partBytes}
-use Rattle.writer.specs.Written.{rowOf, rowIf, rowsOf, residents, Put}
+use Rattle.writer.specs.Rows.{newRow, newRows}
+use Rattle.writer.specs.Written.{Put}
 use Rattle.writer.proofs.Writing.{Writing, write-none, write-more, write-done}
 
-module _ (image offs owners faces masks base slots : List ℕ) (q : ℕ) where
-  -- the rows of k entities from i on
-  unfoldable pub rowsFrom : ℕ → ℕ → List ℕ
-  rowsFrom i zero = []
-  rowsFrom i (suc k) = rowIf image offs owners faces masks base slots q i ++ rowsFrom (suc i) k
+-- ---- the bytes of each of xs, one after another
 
-  from-kept : (i k : ℕ) → rowsFrom i k ≡ flat (map rowBytes (map (rowOf image offs owners faces masks base slots q) (keep (λ i. has (getD masks i 0) q) (from i k))))
-  unfolding rowsFrom rowIf keep from flat
-  from-kept i zero = refl
-  from-kept i (suc k) = go (has (getD masks i 0) q) (from-kept (suc i) k)
-    where
-      ks : List ℕ
-      ks = keep (λ i. has (getD masks i 0) q) (from (suc i) k)
+abbrev pub runs : (ℕ → List ℕ) → List ℕ → List ℕ
+runs f xs = flat (map f xs)
 
-      row : ℕ → Row
-      row = rowOf image offs owners faces masks base slots q
+runs-cons : (f : ℕ → List ℕ) (x : ℕ) (xs : List ℕ) → runs f (x ∷ xs) ≡ f x ++ runs f xs
+unfolding flat
+runs-cons f x xs = refl
 
-      go : (b : Bool) → rowsFrom (suc i) k ≡ flat (map rowBytes (map row ks)) → cond b (rowBytes (row i)) [] ++ rowsFrom (suc i) k ≡ flat (map rowBytes (map row (cond b (i ∷ ks) ks)))
-      go true e = ap (λ (l : List ℕ). rowBytes (row i) ++ l) e
-      go false e = e
+runs-nil : (f : ℕ → List ℕ) → runs f [] ≡ []
+unfolding flat
+runs-nil f = refl
 
-  pub rows-all : rowsFrom 0 (length masks) ≡ flat (map rowBytes (rowsOf image offs owners faces masks base slots q))
-  unfolding rowsOf residents upTo
-  rows-all = from-kept 0 (length masks)
+-- those from the one at k on are left to write
+pub record RunsLeft (f : ℕ → List ℕ) (xs start : List ℕ) (at : ℕ) (out : List ℕ) (k to : ℕ) : Type 0 where
+  pub writing : Writing start at (runs f xs) out to (runs f (drop k xs))
+  pub next? : to + length (runs f (drop k xs)) ≡ at + length (runs f xs)
 
-  pub row-there : (i : ℕ) → has (getD masks i 0) q ≡ true → rowIf image offs owners faces masks base slots q i ≡ rowBytes (rowOf image offs owners faces masks base slots q i)
-  unfolding rowIf
-  row-there i e = ap (λ (b : Bool). cond b (rowBytes (rowOf image offs owners faces masks base slots q i)) []) e
+module _ (f : ℕ → List ℕ) (xs start : List ℕ) (at : ℕ) where
+  pub runs-none : at + length (runs f xs) ≤ length start → RunsLeft f xs start at start 0 at
+  runs-none h = record { writing = write-none start at (runs f xs) (runs f xs) refl h; next? = refl }
 
-  pub row-none : (i : ℕ) → has (getD masks i 0) q ≡ false → rowIf image offs owners faces masks base slots q i ≡ []
-  unfolding rowIf
-  row-none i e = ap (λ (b : Bool). cond b (rowBytes (rowOf image offs owners faces masks base slots q i)) []) e
+  runs-split : (k : ℕ) → k < length xs → runs f (drop k xs) ≡ f (getD xs k 0) ++ runs f (drop (k + 1) xs)
+  runs-split k l =
+      let e : suc k ≡ k + 1 = omega arith in
+      ap (runs f) (drop-cons xs k 0 l) ∙ runs-cons f (getD xs k 0) (drop (suc k) xs) ∙ ap (λ (z : ℕ). f (getD xs k 0) ++ runs f (drop z xs)) e
 
-  from-split : (i : ℕ) → i < length masks → rowsFrom i (length masks - i) ≡ rowIf image offs owners faces masks base slots q i ++ rowsFrom (i + 1) (length masks - (i + 1))
-  unfolding rowsFrom
-  from-split i l =
-      let e : length masks - i ≡ suc (length masks - (i + 1)) = omega arith in
-      let g : suc i ≡ i + 1 = omega arith in
-      ap (rowsFrom i) e ∙ ap (λ (k : ℕ). rowIf image offs owners faces masks base slots q i ++ rowsFrom k (length masks - (i + 1))) g
+  module _ (out : List ℕ) (k to : ℕ) (w : RunsLeft f xs start at out k to) where
+    pub runs-room : k < length xs → to + length (f (getD xs k 0)) ≤ length out
+    runs-room l = omega (arith, w .writing .room, ap length (runs-split k l), length-append (f (getD xs k 0)) (runs f (drop (k + 1) xs)))
 
-  from-end : (i : ℕ) → length masks ≤ i → rowsFrom i (length masks - i) ≡ []
-  unfolding rowsFrom
-  from-end i l = let e : length masks - i ≡ 0 = omega arith in ap (rowsFrom i) e
-
-  abbrev pub allRows : List ℕ
-  allRows = flat (map rowBytes (rowsOf image offs owners faces masks base slots q))
-
-  -- the rows from entity i on are left to write
-  pub record RowsLeft (start : List ℕ) (at : ℕ) (out : List ℕ) (i to : ℕ) : Type 0 where
-    pub writing : Writing start at allRows out to (rowsFrom i (length masks - i))
-    pub next? : to + length (rowsFrom i (length masks - i)) ≡ at + length allRows
-
-  module _ (start : List ℕ) (at : ℕ) where
-    pub rows-none : at + length allRows ≤ length start → RowsLeft start at start 0 at
-    rows-none h =
-        let e : length masks - 0 ≡ length masks = omega arith in
-        let all = ap (rowsFrom 0) e ∙ rows-all in
-        record { writing = write-none start at allRows (rowsFrom 0 (length masks - 0)) all h; next? = ap (λ (l : List ℕ). at + length l) all }
-
-    pub rows-room : (out : List ℕ) (i to : ℕ) → RowsLeft start at out i to → i < length masks
-        → to + length (rowIf image offs owners faces masks base slots q i) ≤ length out
-    rows-room out i to w l =
-        let one = rowIf image offs owners faces masks base slots q i in
-        omega (arith, w .writing .room, ap length (from-split i l), length-append one (rowsFrom (i + 1) (length masks - (i + 1))))
-
-    pub rows-more : (out : List ℕ) (i to : ℕ) (out′ : List ℕ) (to′ : ℕ) → RowsLeft start at out i to → i < length masks
-        → Put (rowIf image offs owners faces masks base slots q i) out out′ to to′ → RowsLeft start at out′ (i + 1) to′
-    rows-more out i to out′ to′ w l p =
-        let one = rowIf image offs owners faces masks base slots q i in
-        let rest = rowsFrom (i + 1) (length masks - (i + 1)) in
+    pub runs-more : (out′ : List ℕ) (to′ : ℕ) → k < length xs → Put (f (getD xs k 0)) out out′ to to′ → RunsLeft f xs start at out′ (k + 1) to′
+    runs-more out′ to′ l p =
+        let one = f (getD xs k 0) in
+        let rest = runs f (drop (k + 1) xs) in
         record {
-          writing = write-more start at allRows out to (rowsFrom i (length masks - i)) one rest out′ to′ (w .writing) (from-split i l) (p .written) (p .next?);
-          next? = omega (arith, w .next?, p .next?, ap length (from-split i l), length-append one rest);
+          writing = write-more start at (runs f xs) out to (runs f (drop k xs)) one rest out′ to′ (w .writing) (runs-split k l) (p .written) (p .next?);
+          next? = omega (arith, w .next?, p .next?, ap length (runs-split k l), length-append one rest);
         }
 
-    pub rows-done : (out : List ℕ) (i to : ℕ) → RowsLeft start at out i to → length masks ≤ i → Put allRows start out at to
-    rows-done out i to w l =
-        record {
-          written = write-done start at allRows out to (rowsFrom i (length masks - i)) (w .writing) (from-end i l);
-          next? = omega (arith, w .next?, ap length (from-end i l));
-        }
+    pub runs-done : length xs ≤ k → Put (runs f xs) start out at to
+    runs-done l =
+        let none = ap (runs f) (drop-of-length-le xs l) ∙ runs-nil f in
+        record { written = write-done start at (runs f xs) out to (runs f (drop k xs)) (w .writing) none; next? = omega (arith, w .next?, ap length none) }
+
+-- ---- the rows of a part
+
+module _ (image offs starts ord ent counts masks base slots : List ℕ) (q : ℕ) where
+  -- the bytes of the row of entity i
+  abbrev pub entityBytes : ℕ → List ℕ
+  entityBytes i = rowBytes (newRow image offs starts ord ent counts masks base slots q i)
+
+  module _ (members : List ℕ) (first n : ℕ) where
+    abbrev pub allRows : List ℕ
+    allRows = flat (map rowBytes (newRows image offs starts ord ent counts masks base slots members first n q))
+
+    rows-runs : allRows ≡ runs entityBytes (take n (drop first members))
+    unfolding newRows
+    rows-runs = ap flat (map-of-map rowBytes (newRow image offs starts ord ent counts masks base slots q) (take n (drop first members)))
+
+    pub rows-count : first + n ≤ length members → length (newRows image offs starts ord ent counts masks base slots members first n q) ≡ n
+    unfolding newRows
+    rows-count h =
+        length-map (take n (drop first members)) (newRow image offs starts ord ent counts masks base slots q) ∙ length-run members first n h
+
+    -- the rows of the members from the one at k on are left to write
+    abbrev pub RowsLeft : List ℕ → ℕ → List ℕ → ℕ → ℕ → Type 0
+    RowsLeft start at out k to = RunsLeft entityBytes (take n (drop first members)) start at out k to
+
+    module _ (h : first + n ≤ length members) (start : List ℕ) (at : ℕ) where
+      pub rows-none : at + length allRows ≤ length start → RowsLeft start at start 0 at
+      rows-none r = runs-none entityBytes (take n (drop first members)) start at (omega (arith, ap length rows-runs))
+
+      module _ (out : List ℕ) (k to : ℕ) (w : RowsLeft start at out k to) where
+        pub rows-room : k < n → to + length (entityBytes (getD members (first + k) 0)) ≤ length out
+        rows-room l =
+            subst (λ (i : ℕ). to + length (entityBytes i) ≤ length out) (getD-run members first n h k l)
+            (runs-room entityBytes (take n (drop first members)) start at out k to w (omega (arith, length-run members first n h)))
+
+        pub rows-more : (out′ : List ℕ) (to′ : ℕ) → k < n → Put (entityBytes (getD members (first + k) 0)) out out′ to to′ → RowsLeft start at out′ (k + 1) to′
+        rows-more out′ to′ l p =
+            runs-more entityBytes (take n (drop first members)) start at out k to w out′ to′ (omega (arith, length-run members first n h))
+            (subst (λ (i : ℕ). Put (entityBytes i) out out′ to to′) (sym (getD-run members first n h k l)) p)
+
+        pub rows-done : n ≤ k → Put allRows start out at to
+        rows-done l =
+            subst (λ (bytes : List ℕ). Put bytes start out at to) (sym rows-runs)
+            (runs-done entityBytes (take n (drop first members)) start at out k to w (omega (arith, length-run members first n h)))
 
 -- a part: its count, and its rows
 pub part-put : (rows : List Row) (n : ℕ) (start mid out : List ℕ) (at next : ℕ) → n ≡ length rows → mid ≡ sets start at (bytesOf 4 n)

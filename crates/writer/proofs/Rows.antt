@@ -3,6 +3,7 @@
 use Prim.Native.Nat.{ℕ, zero, suc, _+_, _-_, _*_, _≤_, _<_}
 use native.Mathlib.Omega.{arith}
 use mathlib.Core.Path.{_≡_, refl, sym, ap, _∙_, subst}
+use mathlib.Core.Bool.{Bool, true, false}
 use mathlib.Core.List.{List, [], _∷_, _++_, map}
 use lib.ListN.{length, getD, take, drop, replicate, length-append, length-replicate, length-map}
 use lib.Seq.{sets}
@@ -11,14 +12,18 @@ use Rattle.laws.specs.Lists.{flat}
 use Rattle.field.specs.Bytes.{u8At, u32At, u64At, bytesOf}
 use Rattle.field.proofs.Numbers.{length-bytes, length-written}
 use Rattle.field.proofs.Stores.{sets-then, sets-inside, length-run}
-use Rattle.part_set.specs.Masks.{count, partsIn, others, rankOf}
+use Rattle.part_set.specs.Masks.{has, count, partsIn, others, rankOf}
 use Rattle.part_set.proofs.Rank.{rank-le}
 use Rattle.part_set.proofs.MaskParts.{others-count}
+use Rattle.part_set.proofs.OnePart.{has-none}
 use Rattle.paper.specs.Image.{rowBytes}
+use Rattle.rules.specs.Owners.{poorestOf}
 use Rattle.writer.specs.Entries.{entryFrom, entryOf, remoteSlots, bodyFrom}
-use Rattle.writer.specs.Written.{frontBytes, rowOf, Sourced}
+use Rattle.writer.specs.Rows.{sourceAt, facesAt, newRow, RowReady}
+use Rattle.writer.specs.Written.{frontBytes, bodyAt, BodyReady}
 use Rattle.writer.proofs.Slots.{rank-lt}
 use Rattle.writer.proofs.Faces.{eachWord, each-length}
+use Rattle.writer.proofs.Gathered.{faces-length}
 
 -- ---- the body
 
@@ -40,6 +45,22 @@ module _ (coords : List ℕ) (f : ℕ → ℕ) (fs : List ℕ) where
   body-length zero h a b = a
   body-length (suc d) h a b =
       omega (arith, length-append (eachWord f fs) (replicate (24 - 4 * (d + 2)) 0), each-length f fs, length-replicate {A = ℕ} (24 - 4 * (d + 2)) 0, h, b)
+
+-- a vertex's body has no faces
+body-same : (coords : List ℕ) (f : ℕ → ℕ) (xs ys : List ℕ) (d : ℕ) → (0 < d → xs ≡ ys) → bodyFrom coords f xs d ≡ bodyFrom coords f ys d
+unfolding bodyFrom
+body-same coords f xs ys zero e = refl
+body-same coords f xs ys (suc d) e = ap (λ (l : List ℕ). bodyFrom coords f l (suc d)) (e (omega arith))
+
+-- by the source row's dimension, from its faces
+pub body-gathered : (image : List ℕ) (at : ℕ) (starts ent masks base slots : List ℕ) (q d : ℕ) (faces : List ℕ) → d ≡ u8At image (at + 4)
+    → (0 < d → faces ≡ facesAt image starts ent at d)
+    → bodyFrom (take 24 (drop (at + 24) image)) (entryOf masks base slots q) faces d ≡ bodyAt image at starts ent masks base slots q
+unfolding bodyAt
+body-gathered image at starts ent masks base slots q d faces e f =
+    let coords = take 24 (drop (at + 24) image) in
+    body-same coords (entryOf masks base slots q) faces (facesAt image starts ent at d) d f
+    ∙ ap (λ (z : ℕ). bodyFrom coords (entryOf masks base slots q) (facesAt image starts ent at z) z) e
 
 -- ---- the front
 
@@ -71,36 +92,53 @@ pub count-le : (m : ℕ) → count m ≤ 64
 unfolding count partsIn rankOf
 count-le m = rank-le m 64
 
-module _ (image offs owners faces masks base slots : List ℕ) (q i : ℕ) (s : Sourced image offs owners faces masks base slots q i) where
-  abbrev off : ℕ
-  off = getD offs i 0
+-- a set that has a part is not empty
+pub own-pos : (m q : ℕ) → has m q ≡ true → 0 < m
+own-pos zero q e = let z : _≡_ {A = Bool} true false = sym e ∙ has-none q in absurd (subst T z tt)
+own-pos (suc m) q e = omega arith
+
+module _ (image offs starts ord ent counts masks base slots : List ℕ) (q i : ℕ) (s : RowReady image offs starts ord ent counts masks base slots q i) where
+  abbrev from : ℕ
+  from = sourceAt offs ord i
 
   abbrev low : ℕ
-  low = u8At image (off + 4)
+  low = u8At image (from + 4)
 
   abbrev set : ℕ
   set = getD masks i 0
 
-  abbrev coords : List ℕ
-  coords = take 24 (drop (off + 24) image)
-
   abbrev bodyBytes : List ℕ
-  bodyBytes = bodyFrom coords (entryOf masks base slots q) (take (low + 1) (drop (4 * i) faces)) low
+  bodyBytes = bodyAt image from starts ent masks base slots q
 
-  abbrev ahead : List ℕ
-  ahead = frontBytes (u32At image off) low (getD owners i 0) (u8At image (off + 6)) set (u64At image (off + 16))
+  abbrev ahead : ℕ → List ℕ
+  ahead owner = frontBytes (u32At image from) low owner (u8At image (from + 6)) set (u64At image (from + 16))
+
+  abbrev owned : ℕ
+  owned = poorestOf counts (partsIn set)
 
   abbrev remote : List ℕ
   remote = flat (map (bytesOf 4) (remoteSlots slots (getD base i 0) set q))
 
-  row-is : rowBytes (rowOf image offs owners faces masks base slots q i) ≡ ahead ++ bodyBytes ++ remote
-  unfolding rowBytes rowOf frontBytes
+  abbrev bytes : List ℕ
+  bytes = rowBytes (newRow image offs starts ord ent counts masks base slots q i)
+
+  pub body-ready : BodyReady image from starts ent masks base slots q
+  body-ready =
+      record {
+        part = s .part;
+        named = record { low = s .low; source = s .source; old = s .old; begun = s .begun; named = s .named };
+        entered = s .entered;
+      }
+
+  row-is : bytes ≡ ahead owned ++ bodyBytes ++ remote
+  unfolding rowBytes newRow frontBytes bodyAt
   row-is = refl
 
   body-size : length bodyBytes ≡ 24
+  unfolding bodyAt
   body-size =
-      body-length coords (entryOf masks base slots q) (take (low + 1) (drop (4 * i) faces)) low (s .low) (length-run image (off + 24) 24 (omega (arith, s .source)))
-      (length-run faces (4 * i) (low + 1) (omega (arith, s .listed, s .low)))
+      body-length (take 24 (drop (from + 24) image)) (entryOf masks base slots q) (facesAt image starts ent from low) low (s .low)
+      (length-run image (from + 24) 24 (omega (arith, s .source))) (faces-length image from starts ent low)
 
   remote-size : length remote ≡ 4 * (count set - 1)
   unfolding remoteSlots
@@ -112,29 +150,29 @@ module _ (image offs owners faces masks base slots : List ℕ) (q i : ℕ) (s : 
         others-count set q (s .part) (subst T (sym (s .own)) tt),
       )
 
-  front-size : length ahead ≡ 24
-  front-size = front-length (u32At image off) low (getD owners i 0) (u8At image (off + 6)) set (u64At image (off + 16))
+  front-size : length (ahead owned) ≡ 24
+  front-size = front-length (u32At image from) low owned (u8At image (from + 6)) set (u64At image (from + 16))
 
-  pub row-length : length (rowBytes (rowOf image offs owners faces masks base slots q i)) ≡ 44 + 4 * count set
+  pub row-length : length bytes ≡ 44 + 4 * count set
   row-length =
       ap length row-is
       ∙ omega (
         arith,
-        length-append (ahead ++ bodyBytes) remote,
-        length-append ahead bodyBytes,
+        length-append (ahead owned ++ bodyBytes) remote,
+        length-append (ahead owned) bodyBytes,
         front-size,
         body-size,
         remote-size,
         rank-lt set q (s .part) (subst T (sym (s .own)) tt),
       )
 
-  pub row-written : (l m1 m2 m3 : List ℕ) (d : ℕ) → d ≡ low → m1 ≡ sets l 0 ahead
-      → m2 ≡ sets m1 24 (bodyFrom coords (entryOf masks base slots q) (take (d + 1) (drop (4 * i) faces)) d) → m3 ≡ sets m2 48 remote
-      → m3 ≡ sets l 0 (rowBytes (rowOf image offs owners faces masks base slots q i))
-  row-written l m1 m2 m3 d e p1 p2 p3 =
-      let p = p2 ∙ ap (λ (z : ℕ). sets m1 24 (bodyFrom coords (entryOf masks base slots q) (take (z + 1) (drop (4 * i) faces)) z)) e in
-      let e1 = sets-then l m1 m2 0 24 ahead bodyBytes p1 p (omega (arith, front-size)) in
-      sets-then l m2 m3 0 48 (ahead ++ bodyBytes) remote e1 p3 (omega (arith, front-size, body-size, length-append ahead bodyBytes)) ∙ ap (sets l 0) (sym row-is)
+  pub row-written : (l m1 m2 m3 : List ℕ) (owner : ℕ) → owner ≡ owned → m1 ≡ sets l 0 (ahead owner) → m2 ≡ sets m1 24 bodyBytes → m3 ≡ sets m2 48 remote
+      → m3 ≡ sets l 0 bytes
+  row-written l m1 m2 m3 owner e p1 p2 p3 =
+      let p = p1 ∙ ap (λ (z : ℕ). sets l 0 (ahead z)) e in
+      let e1 = sets-then l m1 m2 0 24 (ahead owned) bodyBytes p p2 (omega (arith, front-size)) in
+      sets-then l m2 m3 0 48 (ahead owned ++ bodyBytes) remote e1 p3 (omega (arith, front-size, body-size, length-append (ahead owned) bodyBytes))
+      ∙ ap (sets l 0) (sym row-is)
 
 -- ---- copied
 

@@ -1,16 +1,15 @@
 // The rows of a migrated image, written into the output.
-ghost use Prim.Native.Nat.{_+_, _*_, _≤_, _<_};
+ghost use Prim.Native.Nat.{_+_, _≤_, _<_};
 ghost use mathlib.Core.Path.{_≡_};
 ghost use mathlib.Core.List.{[], _∷_, map};
-ghost use lib.ListN.{length, getD, take, drop};
+ghost use lib.ListN.{length, take, drop};
 ghost use lib.Seq.{sets};
 ghost use Rattle.laws.specs.Lists.{flat};
-ghost use Rattle.field.specs.Bytes.{bytesOf};
-ghost use Rattle.field.specs.Bytes.{u8At, u32At, u64At};
+ghost use Rattle.field.specs.Bytes.{bytesOf, u8At, u32At, u64At};
 ghost use Rattle.paper.specs.Image.{rowBytes, partBytes};
-ghost use Rattle.part_set.specs.Masks.{count};
 ghost use Rattle.writer.specs.Entries.{entryOf, Entered, remoteSlots, bodyFrom, RemoteRoom, FacesRoom, BodyRoom};
-ghost use Rattle.writer.specs.Written.{frontBytes, rowOf, rowIf, rowsOf, Sourced, SourcedIf, AllSourced, Put};
+ghost use Rattle.writer.specs.Rows.{newRow, RowReady, newRows, PartReady, PartRoom};
+ghost use Rattle.writer.specs.Written.{frontBytes, FacesNamed, FacesFound, bodyAt, BodyReady, Put};
 
 // The head of an image of n parts.
 pub fn put_head(out: &mut [u8], n: u32)
@@ -119,34 +118,51 @@ fn put_source(image: &[u8], from: usize, owner: u32, mask: u64, out: &mut [u8])
     put_front(out, number, dim, owner, kind, mask, value);
 }
 
-// The row of entity i in part q, at the front of `row`.
-fn build_row(
+// The entities of the boundary of the source row that the image has at `at`, from the front of `faces`; a vertex has none.
+fn gather_faces(image: &[u8], at: usize, starts: &[u32], ent: &[u32], dim: u32, faces: &mut [u32])
+    requires { ⌜ FacesNamed (now image) at (now starts) (now ent) dim ⌝ }
+    requires { ⌜ dim + 1 ≤ length (now faces) ⌝ }
+    ensures { λ _. ⌜ FacesFound (now (image .entry)) at (now (starts .entry)) (now (ent .entry)) dim (now (faces .entry)) (now (faces .exit)) ⌝ }
+{
+    if dim == 0 {
+        return;
+    }
+    let low = part_set::lowest(field::long_at(image, at + 8)) as usize;
+    let first = starts[low] as usize;
+    let n = dim as usize + 1;
+    let mut k = 0;
+    while k < n {
+        let slot = field::word_at(image, at + 24 + 4 * k) as usize;
+        faces[k] = ent[first + slot];
+        k = k + 1;
+    }
+}
+
+// The 24 bytes at 24 of the row in part q whose source row the image has at `from`.
+fn build_body(
     image: &[u8],
-    offs: &[u32],
-    owners: &[u32],
-    faces: &[u32],
+    from: usize,
+    starts: &[u32],
+    ent: &[u32],
     masks: &[u64],
     base: &[u32],
     slots: &[u32],
     q: u32,
-    i: usize,
     row: &mut [u8],
 )
-    requires { ⌜ Sourced (now image) (now offs) (now owners) (now faces) (now masks) (now base) (now slots) q i ⌝ }
+    requires { ⌜ BodyReady (now image) from (now starts) (now ent) (now masks) (now base) (now slots) q ⌝ }
     requires { ⌜ length (now row) ≡ 300 ⌝ }
-    ensures { λ _. ⌜ now (row .exit) ≡ sets (now (row .entry)) 0 (rowBytes (rowOf (now (image .entry)) (now (offs .entry)) (now (owners .entry)) (now (faces .entry)) (now (masks .entry)) (now (base .entry)) (now (slots .entry)) q i)) ⌝ }
+    ensures { λ _. ⌜ now (row .exit) ≡ sets (now (row .entry)) 24 (bodyAt (now (image .entry)) from (now (starts .entry)) (now (ent .entry)) (now (masks .entry)) (now (base .entry)) (now (slots .entry)) q) ⌝ }
 {
-    let from = offs[i] as usize;
-    let first = base[i] as usize;
-    let mask = masks[i];
-    put_source(image, from, owners[i], mask, row);
     let dim = field::byte_at(image, from + 4);
+    let mut faces = [0u32; 4];
+    gather_faces(image, from, starts, ent, dim, &mut faces);
     put_body(
         image,
         from + 24,
         dim,
-        faces,
-        4 * i,
+        &faces,
+        0,
         masks,
         base,
         slots,
@@ -154,6 +170,34 @@ fn build_row(
         row,
         24,
     );
+}
+
+// The row of entity i in part q, at the front of `row`.
+fn build_row(
+    image: &[u8],
+    offs: &[u32],
+    starts: &[u32],
+    ord: &[u32],
+    ent: &[u32],
+    counts: &[u32],
+    masks: &[u64],
+    base: &[u32],
+    slots: &[u32],
+    q: u32,
+    i: usize,
+    row: &mut [u8],
+)
+    requires { ⌜ RowReady (now image) (now offs) (now starts) (now ord) (now ent) (now counts) (now masks) (now base) (now slots) q i ⌝ }
+    requires { ⌜ length (now row) ≡ 300 ⌝ }
+    ensures { λ _. ⌜ now (row .exit) ≡ sets (now (row .entry)) 0 (rowBytes (newRow (now (image .entry)) (now (offs .entry)) (now (starts .entry)) (now (ord .entry)) (now (ent .entry)) (now (counts .entry)) (now (masks .entry)) (now (base .entry)) (now (slots .entry)) q i)) ⌝ }
+{
+    let source = ord[i] as usize;
+    let from = offs[source] as usize;
+    let first = base[i] as usize;
+    let mask = masks[i];
+    let owner = rules::owner::owner_of(mask, counts);
+    put_source(image, from, owner, mask, row);
+    build_body(image, from, starts, ent, masks, base, slots, q, row);
     put_slots(slots, first, mask, q, row, 48);
 }
 
@@ -161,8 +205,10 @@ fn build_row(
 fn put_row(
     image: &[u8],
     offs: &[u32],
-    owners: &[u32],
-    faces: &[u32],
+    starts: &[u32],
+    ord: &[u32],
+    ent: &[u32],
+    counts: &[u32],
     masks: &[u64],
     base: &[u32],
     slots: &[u32],
@@ -171,16 +217,18 @@ fn put_row(
     out: &mut [u8],
     at: usize,
 ) -> usize
-    requires { ⌜ Sourced (now image) (now offs) (now owners) (now faces) (now masks) (now base) (now slots) q i ⌝ }
-    requires { ⌜ at + (44 + 4 * count (getD (now masks) i 0)) ≤ length (now out) ⌝ }
-    ensures { λ r. ⌜ (now (out .exit) ≡ sets (now (out .entry)) at (rowBytes (rowOf (now (image .entry)) (now (offs .entry)) (now (owners .entry)) (now (faces .entry)) (now (masks .entry)) (now (base .entry)) (now (slots .entry)) q i))) × (r ≡ at + (44 + 4 * count (getD (now (masks .entry)) i 0))) ⌝ }
+    requires { ⌜ RowReady (now image) (now offs) (now starts) (now ord) (now ent) (now counts) (now masks) (now base) (now slots) q i ⌝ }
+    requires { ⌜ at + length (rowBytes (newRow (now image) (now offs) (now starts) (now ord) (now ent) (now counts) (now masks) (now base) (now slots) q i)) ≤ length (now out) ⌝ }
+    ensures { λ r. ⌜ Put (rowBytes (newRow (now (image .entry)) (now (offs .entry)) (now (starts .entry)) (now (ord .entry)) (now (ent .entry)) (now (counts .entry)) (now (masks .entry)) (now (base .entry)) (now (slots .entry)) q i)) (now (out .entry)) (now (out .exit)) at r ⌝ }
 {
     let mut row = [0u8; 300];
     build_row(
         image,
         offs,
-        owners,
-        faces,
+        starts,
+        ord,
+        ent,
+        counts,
         masks,
         base,
         slots,
@@ -194,67 +242,39 @@ fn put_row(
     next
 }
 
-// The row of entity i in part q, if it resides there: where the next begins.
-fn put_resident(
-    image: &[u8],
-    offs: &[u32],
-    owners: &[u32],
-    faces: &[u32],
-    masks: &[u64],
-    base: &[u32],
-    slots: &[u32],
-    q: u32,
-    i: usize,
-    out: &mut [u8],
-    at: usize,
-) -> usize
-    requires { ⌜ SourcedIf (now image) (now offs) (now owners) (now faces) (now masks) (now base) (now slots) q i ⌝ }
-    requires { ⌜ at + length (rowIf (now image) (now offs) (now owners) (now faces) (now masks) (now base) (now slots) q i) ≤ length (now out) ⌝ }
-    ensures { λ r. ⌜ Put (rowIf (now (image .entry)) (now (offs .entry)) (now (owners .entry)) (now (faces .entry)) (now (masks .entry)) (now (base .entry)) (now (slots .entry)) q i) (now (out .entry)) (now (out .exit)) at r ⌝ }
-{
-    if part_set::has(masks[i], q) {
-        return put_row(
-            image,
-            offs,
-            owners,
-            faces,
-            masks,
-            base,
-            slots,
-            q,
-            i,
-            out,
-            at,
-        );
-    }
-    at
-}
-
-// The rows of part q, one after another: where they end.
+// The rows in part q of n entities that `members` lists from `first` on, one after another: where they end.
 fn put_rows(
     image: &[u8],
     offs: &[u32],
-    owners: &[u32],
-    faces: &[u32],
+    starts: &[u32],
+    ord: &[u32],
+    ent: &[u32],
+    counts: &[u32],
     masks: &[u64],
     base: &[u32],
     slots: &[u32],
+    members: &[u32],
+    first: usize,
+    n: u32,
     q: u32,
     out: &mut [u8],
     at: usize,
 ) -> usize
-    requires { ⌜ AllSourced (now image) (now offs) (now owners) (now faces) (now masks) (now base) (now slots) q ⌝ }
-    requires { ⌜ at + length (flat (map rowBytes (rowsOf (now image) (now offs) (now owners) (now faces) (now masks) (now base) (now slots) q))) ≤ length (now out) ⌝ }
-    ensures { λ r. ⌜ Put (flat (map rowBytes (rowsOf (now (image .entry)) (now (offs .entry)) (now (owners .entry)) (now (faces .entry)) (now (masks .entry)) (now (base .entry)) (now (slots .entry)) q))) (now (out .entry)) (now (out .exit)) at r ⌝ }
+    requires { ⌜ PartReady (now image) (now offs) (now starts) (now ord) (now ent) (now counts) (now masks) (now base) (now slots) (now members) first n q ⌝ }
+    requires { ⌜ at + length (flat (map rowBytes (newRows (now image) (now offs) (now starts) (now ord) (now ent) (now counts) (now masks) (now base) (now slots) (now members) first n q))) ≤ length (now out) ⌝ }
+    ensures { λ r. ⌜ Put (flat (map rowBytes (newRows (now (image .entry)) (now (offs .entry)) (now (starts .entry)) (now (ord .entry)) (now (ent .entry)) (now (counts .entry)) (now (masks .entry)) (now (base .entry)) (now (slots .entry)) (now (members .entry)) first n q))) (now (out .entry)) (now (out .exit)) at r ⌝ }
 {
-    let mut i = 0;
+    let mut k = 0;
     let mut to = at;
-    while i < masks.len() {
-        to = put_resident(
+    while k < n {
+        let i = members[first + k as usize] as usize;
+        to = put_row(
             image,
             offs,
-            owners,
-            faces,
+            starts,
+            ord,
+            ent,
+            counts,
             masks,
             base,
             slots,
@@ -263,7 +283,7 @@ fn put_rows(
             out,
             to,
         );
-        i = i + 1;
+        k = k + 1;
     }
     to
 }
@@ -272,29 +292,38 @@ fn put_rows(
 pub fn put_part(
     image: &[u8],
     offs: &[u32],
-    owners: &[u32],
-    faces: &[u32],
+    starts: &[u32],
+    ord: &[u32],
+    ent: &[u32],
+    counts: &[u32],
     masks: &[u64],
     base: &[u32],
     slots: &[u32],
-    q: u32,
+    members: &[u32],
+    first: usize,
     count: u32,
+    q: u32,
     out: &mut [u8],
     at: usize,
 ) -> usize
-    requires { ⌜ AllSourced (now image) (now offs) (now owners) (now faces) (now masks) (now base) (now slots) q ⌝ }
-    requires { ⌜ (count ≡ length (rowsOf (now image) (now offs) (now owners) (now faces) (now masks) (now base) (now slots) q)) × (at + length (partBytes (rowsOf (now image) (now offs) (now owners) (now faces) (now masks) (now base) (now slots) q)) ≤ length (now out)) ⌝ }
-    ensures { λ r. ⌜ Put (partBytes (rowsOf (now (image .entry)) (now (offs .entry)) (now (owners .entry)) (now (faces .entry)) (now (masks .entry)) (now (base .entry)) (now (slots .entry)) q)) (now (out .entry)) (now (out .exit)) at r ⌝ }
+    requires { ⌜ PartReady (now image) (now offs) (now starts) (now ord) (now ent) (now counts) (now masks) (now base) (now slots) (now members) first count q ⌝ }
+    requires { ⌜ PartRoom (now image) (now offs) (now starts) (now ord) (now ent) (now counts) (now masks) (now base) (now slots) (now members) first count q (now out) at ⌝ }
+    ensures { λ r. ⌜ Put (partBytes (newRows (now (image .entry)) (now (offs .entry)) (now (starts .entry)) (now (ord .entry)) (now (ent .entry)) (now (counts .entry)) (now (masks .entry)) (now (base .entry)) (now (slots .entry)) (now (members .entry)) first count q)) (now (out .entry)) (now (out .exit)) at r ⌝ }
 {
     field::put_word(out, at, count);
     put_rows(
         image,
         offs,
-        owners,
-        faces,
+        starts,
+        ord,
+        ent,
+        counts,
         masks,
         base,
         slots,
+        members,
+        first,
+        count,
         q,
         out,
         at + 4,

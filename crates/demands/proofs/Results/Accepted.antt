@@ -13,7 +13,7 @@ use Rattle.paper.specs.Outcome.{accepted, unless}
 use Rattle.paper.specs.Image.{Set, rowTotal}
 use Rattle.paper.specs.Mesh.{Entity, Parts, isObject, holds, partsOf, meshOf}
 use Rattle.paper.specs.Sound.{maxImage, soundOf}
-use Rattle.paper.specs.Move.{entryName, entryPart, allEntries, entriesMust, entryFits, Migrated, migrated, sizeSet, migrateSet, migrateOf}
+use Rattle.paper.specs.Move.{entryName, entryPart, allEntries, entryPlace, entriesMust, entryFits, Migrated, migrated, sizeSet, migrateSet, migrateOf}
 use Rattle.laws.proofs.Tests.{iff-eq}
 use Rattle.laws.proofs.Members.{in-flat, flat-in}
 use Rattle.laws.proofs.FirstBad.{all-none}
@@ -45,7 +45,7 @@ pub record Room (S : Set) (l : List ℕ) (out work : ℕ) : Type 0 where
 entries-ok : (k : ℕ) (l : List ℕ) (ok : ℕ → Bool) → ((i : ℕ) → i < allEntries l → T (ok i)) → entriesMust k l ok ≡ accepted tt
 unfolding entriesMust unless
 entries-ok k l ok h =
-    ap (λ (o : Option ℕ). unless k (elim o [ none ↦ none | some i ↦ some (record { major = i; minor = 0 }) ])) (all-none ok (allEntries l) h)
+    ap (λ (o : Option ℕ). unless k (elim o [ none ↦ none | some i ↦ some (entryPlace i) ])) (all-none ok (allEntries l) h)
 
 set-accepts : (S : Set) (l : List ℕ) (out work : ℕ) → Listed (length S) (flat (partsOf S)) l → Room S l out work
     → migrateSet S l out work ≡ accepted (migrated S l)

@@ -8,7 +8,7 @@ use mathlib.Core.Option.{Option, none, some}
 use lib.Dec.{T}
 use Rattle.laws.specs.Lists.{upTo, firstBad}
 use Rattle.paper.specs.Outcome.{accepted, unless}
-use Rattle.paper.specs.Move.{allEntries, entriesMust}
+use Rattle.paper.specs.Move.{allEntries, entryPlace, entriesMust}
 use Rattle.paper.proofs.Outcomes.{not-refused}
 use Rattle.laws.proofs.FirstBad.{none-bad}
 
@@ -16,6 +16,6 @@ pub entries-inv : (k : ℕ) (l : List ℕ) (ok : ℕ → Bool) (u : Unit {0}) �
 unfolding entriesMust unless
 entries-inv k l ok u e = none-bad ok (allEntries l) (go (firstBad ok (upTo (allEntries l))) e)
   where
-    go : (o : Option ℕ) → unless k (elim o [ none ↦ none | some i ↦ some (record { major = i; minor = 0 }) ]) ≡ accepted u → o ≡ none
+    go : (o : Option ℕ) → unless k (elim o [ none ↦ none | some i ↦ some (entryPlace i) ]) ≡ accepted u → o ≡ none
     go none f = refl
     go (some i) f = absurd (not-refused f)

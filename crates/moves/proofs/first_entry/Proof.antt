@@ -10,10 +10,10 @@ use Rattle.moves.proofs.first_entry.Statement.{statement}
 use Rattle.moves.proofs.first_entry.Tie as tie
 
 abbrev Inv-loop : tie.InvT-loop
-Inv-loop rule image list keys ord covered n count total i₀ i = AtEntry (entryTest rule (setIn image) list) (allEntries list) i
+Inv-loop rule image list n total i₀ i = AtEntry (entryTest rule (setIn image) list) (allEntries list) i
 
 abbrev μ-loop : tie.MeasureT-loop
-μ-loop rule image list keys ord covered n count total i₀ i = total - i
+μ-loop rule image list n total i₀ i = total - i
 
 entries-requires : tie.Need-entries-requires Inv-loop μ-loop
 entries-requires c κs = search needs
@@ -22,7 +22,7 @@ loop-holds : tie.Need-loop-holds Inv-loop μ-loop
 loop-holds c = start
 
 judge-entry-requires : tie.Need-judge-entry-requires Inv-loop μ-loop
-judge-entry-requires c κs = (c .before .before .before .before .before .before .before .before .pre, omega (arith, c .loop-test .taken, c .before .before .entries .ensures))
+judge-entry-requires c κs = (c .before .before .before .before .before .pre, omega (arith, c .loop-test .taken, c .before .before .entries .ensures))
 
 returns : tie.Need-returns Inv-loop μ-loop
 returns c = hit (c .before .before .before .loop .inv) (omega (arith, c .before .before .loop-test .taken, c .before .before .before .before .entries .ensures)) (c .before .judge-entry .ensures) (c .if1 .taken)

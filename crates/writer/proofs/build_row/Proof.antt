@@ -1,10 +1,19 @@
 -- `writer::build_row`: front, body and remote slots. Assumes nothing.
 use native.Mathlib.Omega.{arith}
 use lib.ListN.{getD}
-use Rattle.writer.proofs.Rows.{count-le, row-written}
+use Rattle.writer.proofs.Rows.{own-pos, count-le, body-ready, row-written}
 use borrow.Author.Needs.{needs}
 use Rattle.writer.proofs.build_row.Statement.{statement}
 use Rattle.writer.proofs.build_row.Tie as tie
+
+mul-source : tie.Need-mul-source
+mul-source c = search needs
+
+shared-slice-read-source : tie.Need-shared-slice-read-source
+shared-slice-read-source c = search needs
+
+cast-source : tie.Need-cast-source
+cast-source c = search needs
 
 mul-from : tie.Need-mul-from
 mul-from c = search needs
@@ -30,44 +39,23 @@ mul-mask c = search needs
 shared-slice-read-mask : tie.Need-shared-slice-read-mask
 shared-slice-read-mask c = search needs
 
-mul-put-source : tie.Need-mul-put-source
-mul-put-source c = search needs
-
-shared-slice-read-put-source : tie.Need-shared-slice-read-put-source
-shared-slice-read-put-source c = search needs
+owner-of-requires : tie.Need-owner-of-requires
+owner-of-requires c κs =
+    let s = c .before .before .before .before .before .before .before .before .before .before .before .before .before .before in
+    (own-pos (getD (s .args .masks .now) (s .args .i) 0) (s .args .q) (s .pre .0 .own), s .pre .0 .counted)
 
 put-source-requires : tie.Need-put-source-requires
 put-source-requires c κs = search needs
 
-add-byte-at : tie.Need-add-byte-at
-add-byte-at c = search needs
-
-byte-at-requires : tie.Need-byte-at-requires
-byte-at-requires c κs = search needs
-
-add-put-body : tie.Need-add-put-body
-add-put-body c = search needs
-
-mul-put-body : tie.Need-mul-put-body
-mul-put-body c = search needs
-
-put-body-requires : tie.Need-put-body-requires
-put-body-requires c κs =
-    let s = c .before .before .before .before .before .before .before .before .before .before .before .before .before .before .before .before .before .before in
-    let p = s .pre .0 in
-    let e = c .before .byte-at .ensures .0 in
-    record {
-      part = p .part;
-      low = omega (arith, e, p .low);
-      source = omega (arith, p .source);
-      listed = omega (arith, e, p .low, p .listed);
-      entered = λ h k l. p .entered (omega (arith, e, h)) k (omega (arith, e, l));
-      room = search needs;
-    }
+build-body-requires : tie.Need-build-body-requires
+build-body-requires c κs =
+    let s = c .before .before .before .before .before .before .before .before .before .before .before .before .before .before .before .before .before .before .before .before in
+    let a = s .args in
+    (body-ready (a .image .now) (a .offs .now) (a .starts .now) (a .ord .now) (a .ent .now) (a .counts .now) (a .masks .now) (a .base .now) (a .slots .now) (a .q) (a .i) (s .pre .0), omega (arith, s .pre .1))
 
 put-slots-requires : tie.Need-put-slots-requires
 put-slots-requires c κs =
-    let s = c .before .before .before .before .before .before .before .before .before .before .before .before .before .before .before .before .before .before .before .before .before .before in
+    let s = c .before .before .before .before .before .before .before .before .before .before .before .before .before .before .before .before .before .before .before .before .before .before .before .before in
     let p = s .pre .0 in
     record { part = p .part; own = p .own; there = p .there; room = omega (arith, s .pre .1, count-le (getD (s .args .masks .now) (s .args .i) 0)) }
 
@@ -76,13 +64,18 @@ same-length c = search needs
 
 returns : tie.Need-returns
 returns c =
-    let s = c .before .before .before .before .before .before .before .before .before .before .before .before .before .before .before .before .before .before .before .before .before .before .before .before .before in
-    row-written _ _ _ _ _ _ _ _ _ (s .pre .0) _ _ _ _ _ (c .before .before .before .before .before .before .before .before .byte-at .ensures .0) (c .before .before .before .before .before .before .before .before .before .before .before .put-source .ensures) (c .before .before .before .before .before .before .put-body .ensures) (c .before .before .put-slots .ensures)
+    let s = c .before .before .before .before .before .before .before .before .before .before .before .before .before .before .before .before .before .before .before .before .before .before .before .before .before .before .before in
+    let a = s .args in
+    row-written (a .image .now) (a .offs .now) (a .starts .now) (a .ord .now) (a .ent .now) (a .counts .now) (a .masks .now) (a .base .now) (a .slots .now) (a .q) (a .i) (s .pre .0) (a .row .now) _ _ _ _ (c .before .before .before .before .before .before .before .before .before .before .before .before .owner-of .ensures .0) (c .before .before .before .before .before .before .before .before .before .before .put-source .ensures)
+    (c .before .before .before .before .before .before .build-body .ensures) (c .before .before .put-slots .ensures)
 
 pub build-row-spec : {M : Type 1} → statement M
 build-row-spec =
     tie.close
     (tie.spec
+    mul-source
+    shared-slice-read-source
+    cast-source
     mul-from
     shared-slice-read-from
     cast-from
@@ -91,14 +84,9 @@ build-row-spec =
     cast-first
     mul-mask
     shared-slice-read-mask
-    mul-put-source
-    shared-slice-read-put-source
+    owner-of-requires
     put-source-requires
-    add-byte-at
-    byte-at-requires
-    add-put-body
-    mul-put-body
-    put-body-requires
+    build-body-requires
     put-slots-requires
     same-length
     returns)

@@ -3,7 +3,7 @@ use Prim.Native.Nat.{ℕ, _+_, _*_}
 use native.Mathlib.Omega.{arith}
 use lib.ListN.{replicate, length-replicate}
 use Rattle.paper.specs.Image.{rowBytes}
-use Rattle.writer.specs.Written.{rowOf}
+use Rattle.writer.specs.Rows.{newRow}
 use Rattle.writer.proofs.Rows.{row-length, row-copied}
 use borrow.Author.Needs.{needs}
 use Rattle.writer.proofs.put_row.Statement.{statement}
@@ -33,29 +33,36 @@ mul-n c = search needs
 add-n : tie.Need-add-n
 add-n c = search needs
 
+add-next : tie.Need-add-next
+add-next c =
+    let s = c .before .before .before .before .before .before .before .before .before .before .before .before .before .before .before in
+    let a = s .args in
+    omega (arith, c .count .ensures .0, s .good .1 .1 .1 .1 .1 .1 .1 .1 .1 .1 .1 .0 .0, s .pre .1, row-length (a .image .now) (a .offs .now) (a .starts .now) (a .ord .now) (a .ent .now) (a .counts .now) (a .masks .now) (a .base .now) (a .slots .now) (a .q) (a .i) (s .pre .0))
+
 slice-aggregate-copy : tie.Need-slice-aggregate-copy
 slice-aggregate-copy c = search needs
 
 copy-requires : tie.Need-copy-requires
-copy-requires c κs = search needs
-
-add-next : tie.Need-add-next
-add-next c = omega (arith, c .count .ensures .0, c .before .before .before .before .before .before .before .before .before .before .before .before .before .pre .1)
+copy-requires c κs =
+    let s = c .before .before .before .before .before .before .before .before .before .before .before .before .before .before .before .before .before in
+    let a = s .args in
+    (search needs, omega (arith, c .before .before .count .ensures .0, s .pre .1, row-length (a .image .now) (a .offs .now) (a .starts .now) (a .ord .now) (a .ent .now) (a .counts .now) (a .masks .now) (a .base .now) (a .slots .now) (a .q) (a .i) (s .pre .0)))
 
 same-length : tie.Need-same-length
 same-length c = search needs
 
 returns : tie.Need-returns
 returns c =
-    let s = c .before .before .before .before .before .before .before .before .before .before .before .before .before .before .before .before .before .before in
+    let s = c .before .before .before .before .before .before .before .before .before .before .before .before .before .before .before .before .before .before .before .before in
     let a = s .args in
-    let n = c .before .before .before .before .before .count .ensures .0 in
-    let k = row-length (a .image .now) (a .offs .now) (a .owners .now) (a .faces .now) (a .masks .now) (a .base .now) (a .slots .now) (a .q) (a .i) (s .pre .0) in
-    let bytes = rowBytes (rowOf (a .image .now) (a .offs .now) (a .owners .now) (a .faces .now) (a .masks .now) (a .base .now) (a .slots .now) (a .q) (a .i)) in (
-      row-copied (replicate 300 0) _ bytes (a .out .now) _ (a .at) (44 + 4 * c .before .before .before .before .before .count .result) (c .before .before .before .before .before .before .before .before .build-row .ensures) (c .before .before .copy .ensures) (omega (arith, k, n))
-          (omega (arith, n, c .before .before .before .before .before .count .ensures .1)) (length-replicate {A = ℕ} 300 0),
-      omega (arith, n),
-    )
+    let count = c .before .before .before .before .before .count in
+    let k = row-length (a .image .now) (a .offs .now) (a .starts .now) (a .ord .now) (a .ent .now) (a .counts .now) (a .masks .now) (a .base .now) (a .slots .now) (a .q) (a .i) (s .pre .0) in
+    let bytes = rowBytes (newRow (a .image .now) (a .offs .now) (a .starts .now) (a .ord .now) (a .ent .now) (a .counts .now) (a .masks .now) (a .base .now) (a .slots .now) (a .q) (a .i)) in
+    record {
+      written = row-copied (replicate 300 0) _ bytes (a .out .now) _ (a .at) (44 + 4 * count .result) (c .before .before .before .before .before .before .before .before .build-row .ensures) (c .before .before .copy .ensures)
+          (omega (arith, k, count .ensures .0)) (omega (arith, count .ensures .1)) (length-replicate {A = ℕ} 300 0);
+      next? = omega (arith, k, count .ensures .0);
+    }
 
 pub put-row-spec : {M : Type 1} → statement M
 put-row-spec =
