@@ -16,6 +16,17 @@ pub struct Benchmark {
     pub moves: Vec<Entry>,
 }
 
+impl Benchmark {
+    /// Every tetrahedron goes to the part after its own.
+    pub fn all_moves(&self) -> Vec<Entry> {
+        let next = |part: usize| (part + 1) % self.sample.part_count;
+        let placement = self.sample.placement.iter();
+        placement
+            .map(|(&name, &part)| Entry::new(name, next(part)))
+            .collect()
+    }
+}
+
 /// A tetrahedron by its number and the middle of its corners.
 #[derive(Clone, Copy)]
 struct Element {

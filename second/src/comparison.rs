@@ -161,20 +161,20 @@ fn work_fault(work: &[u64], work_words: usize) -> Option<String> {
 }
 
 /// What a buffer holds before a call: never zero, never the same for long.
-fn out_pattern(length: usize) -> Vec<u8> {
+pub fn out_pattern(length: usize) -> Vec<u8> {
     (0..length)
         .map(|place| (place % 251) as u8 ^ 0xa5)
         .collect()
 }
 
-fn work_pattern(length: usize) -> Vec<u64> {
+pub fn work_pattern(length: usize) -> Vec<u64> {
     let word = |place: usize| (place as u64 + 1).wrapping_mul(0x9e37_79b9_7f4a_7c15);
     (0..length).map(word).collect()
 }
 
 // ---- answers in the form of the C interface: every number 0 that the answer does not set
 
-fn checked_answer(answer: Result<crate::Checked, Refusal>) -> DmpChecked {
+pub fn checked_answer(answer: Result<crate::Checked, Refusal>) -> DmpChecked {
     match answer {
         Ok(checked) => DmpChecked {
             parts: checked.parts as u32,
@@ -194,7 +194,7 @@ fn checked_answer(answer: Result<crate::Checked, Refusal>) -> DmpChecked {
     }
 }
 
-fn migrated_answer(answer: &Result<Migrated, Refusal>) -> DmpMigrated {
+pub fn migrated_answer(answer: &Result<Migrated, Refusal>) -> DmpMigrated {
     match answer {
         Ok(migrated) => DmpMigrated {
             length: migrated.image.len() as u32,
@@ -215,7 +215,7 @@ fn migrated_answer(answer: &Result<Migrated, Refusal>) -> DmpMigrated {
     }
 }
 
-fn found_answer(answer: Result<crate::Found, Refusal>) -> DmpFound {
+pub fn found_answer(answer: Result<crate::Found, Refusal>) -> DmpFound {
     match answer {
         Ok(found) => DmpFound {
             owner: found.owner as u32,
@@ -235,7 +235,7 @@ fn found_answer(answer: Result<crate::Found, Refusal>) -> DmpFound {
     }
 }
 
-fn boxed_answer(answer: Result<Option<crate::Bounds>, Refusal>) -> DmpBoxed {
+pub fn boxed_answer(answer: Result<Option<crate::Bounds>, Refusal>) -> DmpBoxed {
     match answer {
         Ok(None) => DmpBoxed::default(),
         Ok(Some(bounds)) => DmpBoxed {

@@ -20,7 +20,7 @@ use Rattle.migrate.specs.declared.Stage.the-variants.{Stop, Go}
 use Rattle.migrate.specs.Steps.{Judges}
 use Rattle.migrate.proofs.Answers.{few-words}
 
--- the number of an entry, capped
+-- the number of an entry, of which an answer has 32 bits
 pub low-number : (i : ℕ) → i < 2 ^ 32 → i ≡ entryPlace i .major
 low-number i h = sym (ap (λ (b : Bool). cond b i (2 ^ 32 - 1)) (T-true (ltb i (2 ^ 32)) (lt→ltb i (2 ^ 32) h)))
 
@@ -34,11 +34,11 @@ high-number i h = sym (ap (λ (b : Bool). cond b i (2 ^ 32 - 1)) (not-true (ltb 
 -- ---- `judge_list`
 
 module _ (S : Set) (l : List ℕ) (x : ListStage) (judged : ListJudged S l x) where
-  pub stops-at : (k i : ℕ) → x ≡ list.Stop k i → (work : ℕ) → sizeSet S l work ≡ refused k (entryPlace i)
+  stops-at : (k i : ℕ) → x ≡ list.Stop k i → (work : ℕ) → sizeSet S l work ≡ refused k (entryPlace i)
   unfolding ListJudged
   stops-at k i e = rw e at judged
 
-  pub passes : x ≡ list.Go → PassedBelow 17 S l
+  passes : x ≡ list.Go → PassedBelow 17 S l
   unfolding ListJudged
   passes e = rw e at judged
 

@@ -209,17 +209,8 @@ fn size_sound(
     requires { ⌜ Empty (now work) (now ent) (now counts) ⌝ }
     ensures { λ r. ⌜ SizesUp (now (image .entry)) (now (list .entry)) (now (offs .entry)) (now (starts .entry)) (now (ord .entry)) (now (ent .exit)) (now (keys .exit)) (now (counts .exit)) (length (now (work .entry))) r ⌝ }
 {
-    let stage = judge_list(
-        image,
-        list,
-        keys,
-        covered,
-        ord,
-        n,
-        rows,
-        entities,
-        work.len(),
-    );
+    let words = work.len();
+    let stage = judge_list(image, list, keys, covered, ord, n, rows, entities, words);
     match stage {
         Stage::Stop(r) => return Sizing::Refused(r),
         Stage::Go => {}

@@ -1,5 +1,5 @@
 //! Writes images and lists into files:
-//! `generate tets PARTS BYTES MOVED_PERCENT IMAGE LIST` for measuring, and
+//! `generate tets PARTS BYTES MOVED_PERCENT IMAGE LIST [LIST_OF_ALL]` for measuring, and
 //! `generate examples DIR` for the small meshes of document 01.
 
 use second::mesh::Name;
@@ -9,15 +9,15 @@ use std::path::Path;
 use std::process::ExitCode;
 
 const USAGE: &str = "\
-usage: generate tets PARTS BYTES MOVED_PERCENT IMAGE LIST
+usage: generate tets PARTS BYTES MOVED_PERCENT IMAGE LIST [LIST_OF_ALL]
        generate examples DIR";
 
 fn main() -> ExitCode {
     let arguments: Vec<String> = std::env::args().skip(1).collect();
     let words: Vec<&str> = arguments.iter().map(String::as_str).collect();
     let done = match words[..] {
-        ["tets", parts, bytes, percent, image, list] => {
-            write_tetrahedra([parts, bytes, percent], Path::new(image), Path::new(list))
+        ["tets", parts, bytes, percent, ref files @ ..] if (2..=3).contains(&files.len()) => {
+            write_tetrahedra([parts, bytes, percent], files)
         }
         ["examples", folder] => write_examples(Path::new(folder)),
         _ => Err(USAGE.to_string()),
@@ -35,7 +35,8 @@ fn write(path: &Path, bytes: &[u8]) -> Result<(), String> {
     std::fs::write(path, bytes).map_err(|error| format!("{}: {error}", path.display()))
 }
 
-fn write_tetrahedra(numbers: [&str; 3], image: &Path, list: &Path) -> Result<(), String> {
+/// The files are the image, the list and, if wanted, the list that moves all.
+fn write_tetrahedra(numbers: [&str; 3], files: &[&str]) -> Result<(), String> {
     let [parts, bytes, percent] = numbers.map(|number| number.parse::<usize>().ok());
     let (Some(parts @ 1..=64), Some(bytes), Some(percent @ 0..=100)) = (parts, bytes, percent)
     else {
@@ -44,8 +45,11 @@ fn write_tetrahedra(numbers: [&str; 3], image: &Path, list: &Path) -> Result<(),
     let made = benchmark::tetrahedra(parts, bytes, percent)
         .ok_or(format!("{parts} parts take more than {bytes} bytes"))?;
     let image_bytes = made.sample.image();
-    write(image, &image_bytes)?;
-    write(list, &move_list::write(&made.moves))?;
+    write(Path::new(files[0]), &image_bytes)?;
+    write(Path::new(files[1]), &move_list::write(&made.moves))?;
+    if let Some(list_of_all) = files.get(2) {
+        write(Path::new(list_of_all), &move_list::write(&made.all_moves()))?;
+    }
     println!(
         "{} tetrahedra in {parts} parts: {} rows, {} bytes; {} entries; {} bytes after the move",
         made.sample.placement.len(),
