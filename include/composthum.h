@@ -6,7 +6,7 @@
    the image or the list. The bytes of all four may be anything.
 
    Threads and stack. A call keeps nothing between calls, allocates nothing and shares nothing: it is safe from many threads at once, each with
-   an `out` and a `work` of its own. dmp_migrate takes less than 1 MiB of stack, the other calls less than 512 KiB.
+   an `out` and a `work` of its own. dmp_migrate takes less than 800 KiB of stack, the other calls less than 512 KiB.
 
    Every number that an answer does not set is 0; of a refused call these are all but `refusal`, `major` and `minor`.
 
@@ -36,7 +36,8 @@
     21      lookup finds no entity                                                   0 0
    They are judged in this order, each only when all before it pass: check gives 1 to 12, migrate 1 to 19, lookup 1 to 12 and 21, box 1 to 12
    and 20. For 7 to 12 the place is the first row, by part and then by slot, that breaks the rule; for 13 to 16 the first entry of the list,
-   counted from 0. Of two entries out of order it is the later; bytes left over count as the entry after the last whole one. */
+   counted from 0. Of two entries out of order it is the later; bytes left over count as the entry after the last whole one; an entry from 2^32
+   on, in a list of 32 GiB, is given as 2^32 - 1. */
 #ifndef COMPOSTHUM_H
 #define COMPOSTHUM_H
 
