@@ -5,5 +5,6 @@ pub mod Runs
 pub mod Demand1
 pub mod Demand2
 pub mod Demand3
+pub mod Lookups
 pub mod Results
 pub mod Programs

@@ -1,8 +1,8 @@
--- The limits that no computed case reaches, 1, 18 and `too long`: each is given exactly when the document says, its numbers written out.
+-- The limits that no computed case reaches, 1, 18, `too long` and the number of an entry: each is given exactly when the document says, its numbers written out.
 -- Assumes nothing.
 use Prim.Native.Nat.{ℕ, _<_, _≤_}
 use mathlib.Core.Path.{_≡_, refl, sym, ap, subst}
-use mathlib.Core.Bool.{Bool, true, false, not}
+use mathlib.Core.Bool.{Bool, true, false, not, cond}
 use mathlib.Core.List.{List, [], _∷_}
 use mathlib.Core.Option.{Option, none, some}
 use lib.ListN.{length}
@@ -11,7 +11,7 @@ use borrow.Author.Tests.{lt-ltb, le-ltb, lt-leb, leb-false, eq-eqb}
 use Rattle.paper.specs.Outcome.{Outcome, Place, refused, accepted, nowhere, _>>=_, _>>_, must, get, unless}
 use Rattle.paper.specs.Image.{Set}
 use Rattle.paper.specs.Sound.{soundOf, checkOf, rowsMust}
-use Rattle.paper.specs.Move.{Migrated, migrated, sizeSet, entriesMust}
+use Rattle.paper.specs.Move.{entryPlace, entriesMust, Migrated, migrated, sizeSet}
 use Rattle.paper.specs.Listing.{answerText, listingOf}
 use Rattle.paper.proofs.Outcomes.{not-refused, accepted-inj, then-inv, must-inv}
 use Rattle.paper.proofs.Table.{text}
@@ -109,6 +109,15 @@ check-large-only b p e =
     (never-then (never-rows 1 11 _ _ tt)
     (never-then (never-rows 1 12 _ _ tt) never-accepted)))))))))))
     (bind-refused (soundOf b) _ 1 p e))
+
+-- ---- 13 to 16: the number of an entry
+
+-- below 4,294,967,296 it is given as it is, and from there on as the last of these
+pub entry-low : (i : ℕ) → i < 4294967296 → entryPlace i ≡ record { major = i; minor = 0 }
+entry-low i h = ap (λ (t : Bool). record { major = cond t i 4294967295; minor = 0 }) (lt-ltb i 4294967296 h)
+
+pub entry-high : (i : ℕ) → 4294967296 ≤ i → entryPlace i ≡ record { major = 4294967295; minor = 0 }
+entry-high i h = ap (λ (t : Bool). record { major = cond t i 4294967295; minor = 0 }) (le-ltb i 4294967296 h)
 
 -- ---- 18: a result over 1,048,576 bytes
 
