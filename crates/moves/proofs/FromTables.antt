@@ -2,8 +2,7 @@
 -- Assumes nothing.
 use Prim.Native.Nat.{ℕ, _+_, _<_}
 use native.Mathlib.Omega.{arith}
-use mathlib.Core.Path.{_≡_, refl, sym, ap, _∙_, subst}
-use mathlib.Core.Bool.{Bool, true, false, not, cond}
+use mathlib.Core.Path.{_≡_, sym, ap, _∙_, subst}
 use mathlib.Core.List.{List, [], map}
 use lib.ListN.{length, getD, take, length-map}
 use lib.Seq.{getD-take, length-take-le}
@@ -22,17 +21,13 @@ use Rattle.demands.proofs.Sound.Facts.{Copied, Each}
 use Rattle.demands.proofs.Sound.Rows.{ent, in-part, agree}
 use Rattle.demands.proofs.ForCode.Covered.{row-object}
 use Rattle.index.specs.Index.{setIn, Indexed, Named}
-use Rattle.rules.specs.Tables.{slotCovered, Covers}
+use Rattle.rules.specs.Tables.{Covers}
 use Rattle.rules.proofs.rows.Laws.{row-there}
-use Rattle.rules.proofs.residence.Names.{covered-slot}
 use Rattle.entities.specs.declared.Listed.{Listed}
 use Rattle.entities.specs.LowestCopies.{Entities}
 use Rattle.entities.proofs.MeshOrder.{EntityAt, entities-mesh, entity-at}
-use Rattle.moves.specs.Catalog.{Listing, Catalog}
-
-bit-open : (x : Bool) → eqb (cond x 1 0) 0 ≡ not x
-bit-open true = refl
-bit-open false = refl
+use Rattle.moves.specs.Catalog.{Listing, Present, Catalog}
+use Rattle.moves.proofs.OpenRows.{row-open}
 
 module _ {b offs starts keys covered : List ℕ} {n : ℕ} (index : Indexed b offs starts n) (named : Named b starts keys) (f : Copied (setIn b))
     (resides : Each (setIn b) (λ p s. T (residesWell (setIn b) p s))) (covers : Covers b starts covered) {ord tmp ord′ tmp′ : List ℕ} {r : Listed}
@@ -91,7 +86,7 @@ module _ {b offs starts keys covered : List ℕ} {n : ℕ} (index : Indexed b of
       subst (λ (ks : List ℕ). In k ks) (sym (entities-mesh index named f e))
       (subst (λ (z : ℕ). In z (map name (meshOf (partsOf (setIn b))))) (sym (w .2)) (in-map name (meshOf (partsOf (setIn b))) (w .0) (in-sort es one-entity (w .0) (w .1))))
 
-  all : (k : ℕ) → T (holds (flat (partsOf (setIn b))) k) → (j : ℕ) × (j < r .count) × (keyIn keys (getD ord′ j 0) ≡ k)
+  all : (k : ℕ) → T (holds (flat (partsOf (setIn b))) k) → Present keys ord′ (r .count) k
   all k t =
       let w = in-getD names k 0 (named-in k t) in
       let h : w .0 < r .count = omega (arith, w .1, names-count) in
@@ -99,9 +94,7 @@ module _ {b offs starts keys covered : List ℕ} {n : ℕ} (index : Indexed b of
 
   is-object : (p s : ℕ) → s < length (getD (setIn b) p []) → eqb (getD covered (getD starts p 0 + s) 0) 0 ≡ isObject (flat (partsOf (setIn b))) (nameOfRow (rowAt (setIn b) p s))
   unfolding rowAt
-  is-object p s h =
-      let S = setIn b in
-      ap (λ (x : ℕ). eqb x 0) (covers .entry p s h) ∙ bit-open (slotCovered (getD S p []) s) ∙ ap not (covered-slot S f p s h) ∙ sym (row-object S f resides p s h)
+  is-object p s h = row-open f covers p s h ∙ sym (row-object (setIn b) f resides p s h)
 
   pub catalog : Catalog (setIn b) keys ord′ covered (r .count)
   catalog = record {

@@ -16,6 +16,10 @@ pub record Listing (keys ord : List ℕ) (count : ℕ) : Type 0 where
   pub row : (j : ℕ) → j < count → getD ord j 0 < length keys
   pub up : (i j : ℕ) → i < j → j < count → keyIn keys (getD ord i 0) < keyIn keys (getD ord j 0)
 
+-- the name x has a place
+abbrev pub Present : List ℕ → List ℕ → ℕ → ℕ → Type 0
+Present keys ord count x = (j : ℕ) × (j < count) × (keyIn keys (getD ord j 0) ≡ x)
+
 -- all before i are below x
 pub record Behind (keys ord : List ℕ) (count x i : ℕ) : Type 0 where
   pub to : i ≤ count
@@ -31,5 +35,5 @@ pub record Catalog (S : Set) (keys ord covered : List ℕ) (count : ℕ) : Type 
   pub listing : Listing keys ord count
   pub row : (j : ℕ) → j < count → getD ord j 0 < length covered
   pub held : (j : ℕ) → j < count → T (holds (flat (partsOf S)) (keyIn keys (getD ord j 0)))
-  pub all : (k : ℕ) → T (holds (flat (partsOf S)) k) → (j : ℕ) × (j < count) × (keyIn keys (getD ord j 0) ≡ k)
+  pub all : (k : ℕ) → T (holds (flat (partsOf S)) k) → Present keys ord count k
   pub object : (j : ℕ) → j < count → eqb (getD covered (getD ord j 0) 0) 0 ≡ isObject (flat (partsOf S)) (keyIn keys (getD ord j 0))

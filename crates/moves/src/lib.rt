@@ -113,7 +113,7 @@ fn first_entry(rule: EntryRule, image: &[u8], list: &[u8], n: u32) -> Bad
 }
 
 // The first place from `from` on whose name is not below `name`, or `count`.
-fn seek(keys: &[u64], ord: &[u32], count: usize, from: usize, name: u64) -> usize
+pub fn seek(keys: &[u64], ord: &[u32], count: usize, from: usize, name: u64) -> usize
     requires { ⌜ Listing (now keys) (now ord) count ⌝ }
     requires { ⌜ Behind (now keys) (now ord) count name from ⌝ }
     ensures { λ r. ⌜ Lower (now (keys .entry)) (now (ord .entry)) count name r ⌝ }

@@ -1,46 +1,35 @@
 -- Where each object's row is sent: to the part of the entry that names it, or it stays. Assumes nothing.
-use Prim.Native.Nat.{ℕ, suc, _+_, _*_, _<_}
-use native.Mathlib.Numerals.{add-one}
+use Prim.Native.Nat.{ℕ, _+_, _<_}
 use native.Mathlib.Omega.{arith}
 use mathlib.Core.Path.{_≡_, refl, sym, ap, _∙_, subst}
 use mathlib.Core.Bool.{Bool, not}
 use mathlib.Core.List.{List, []}
 use mathlib.Core.Option.{Option, none, some}
 use lib.ListN.{length, getD}
-use lib.Dec.{T, leb, eqb, ltb→lt, eqb→eq, T-not}
+use lib.Dec.{T, eqb, ltb→lt, eqb→eq, T-not}
 use Rattle.laws.specs.Lists.{upTo, firstBad}
-use Rattle.laws.proofs.Tests.{split4, eq-eqb, not-not}
+use Rattle.laws.proofs.Tests.{eq-eqb, not-not}
 use Rattle.laws.proofs.FirstBad.{none-bad, bad-lt, bad-fails}
-use Rattle.field.specs.Bytes.{u8At, u16At}
 use Rattle.paper.specs.Image.{rowAt}
 use Rattle.paper.specs.Mesh.{name, entOf, partsOf, meshOf, isObject, slotIn}
 use Rattle.paper.specs.Sound.{nameOfRow}
 use Rattle.paper.specs.Placement.{placeIn}
-use Rattle.paper.specs.Move.{entryName, entryPart, allEntries, ascends, entryFits}
+use Rattle.paper.specs.Move.{entryName, entryPart, allEntries, entryFits}
 use Rattle.index.specs.Index.{setIn}
 use Rattle.order.specs.Runs.{keyIn}
 use Rattle.rules.proofs.rows.Laws.{part-room, part-there, row-there}
 use Rattle.demands.proofs.Theorems.Destinations.{moved-listed, moved-unlisted}
 use Rattle.demands.proofs.Sound.Facts.{Sound}
-use Rattle.demands.proofs.Sound.Rows.{row, ent, in-part, slot-is}
+use Rattle.demands.proofs.Sound.Rows.{ent, in-part, slot-is}
 use Rattle.demands.proofs.Sound.ToFit.{sound-fit}
 use Rattle.demands.proofs.Fit.ToMesh.{object-found}
 use Rattle.moves.specs.declared.EntryRule.the-variants.{Whole, Destination}
 use Rattle.moves.specs.Entries.{entryTest}
-use Rattle.moves.proofs.Judging.{passed-whole, passed-entity}
+use Rattle.moves.proofs.Judging.{passed-whole, passed-next, passed-entity}
 use Rattle.plan.specs.Plan.{placed, placing, Destined, LowestRow}
 use Rattle.places.specs.Sending.{Sendable}
 use Rattle.places.specs.Sweep.{Stretches, Stayed, Addressed, Sent}
 use Rattle.places.proofs.ObjectRows.{open-object, open-place}
-
--- an entry that fits comes after the one before it
-fits-up : (l : List ℕ) (i : ℕ) → T (entryFits l (i + 1)) → entryName l i < entryName l (i + 1)
-unfolding entryFits ascends
-fits-up l i t =
-    let k = i + 1 in
-    let s = split4 (leb (8 * k + 8) (length l)) (eqb (u16At l (8 * k + 6)) 0) (leb (u8At l (8 * k + 4)) 3) (ascends l k) t in
-    let up : T (ascends l k) = s .3 in
-    rw (add-one i) (ltb→lt (entryName l i) (entryName l (suc i)) (rw (add-one i) at up))
 
 module _ {b l offs keys starts table ord dest : List ℕ} {n m : ℕ} (asked : Sendable b l offs keys starts table ord dest n m) where
   -- ---- what the two sweeps ask
@@ -74,10 +63,8 @@ module _ {b l offs keys starts table ord dest : List ℕ} {n m : ℕ} (asked : S
         room = λ j h. let w = lowest j h in omega (arith, w .is, row-there index (w .part) (w .slot) (w .there), asked .room, same);
         whole = passed-whole (setIn b) l 17 (omega arith) (asked .passed);
         part = λ i h. omega (arith, part-fits i h, index .count, index .few);
-        up = λ i h. fits-up l i (fits (i + 1) h);
-        there = λ i h.
-            let w = asked .catalog .all (entryName l i) (passed-entity (setIn b) l 17 (omega arith) (asked .passed) i h) in
-            record { place = w .0; after = omega arith; there = w .1; is = w .2 };
+        up = passed-next (setIn b) l 17 (omega arith) (asked .passed);
+        there = λ i h. asked .catalog .all (entryName l i) (passed-entity (setIn b) l 17 (omega arith) (asked .passed) i h);
       }
 
   -- ---- what they leave
@@ -109,8 +96,8 @@ module _ {b l offs keys starts table ord dest : List ℕ} {n m : ℕ} (asked : S
       is-listed : (i : ℕ) → i < allEntries l → entryName l i ≡ k → getD dest₂ (getD starts p 0 + s) 0 ≡ placing b l k
       is-listed i g e =
           let w = addressed dest refl .there i g in
-          let at : getD ord (w .place) 0 ≡ getD starts p 0 + s = place-row (w .place) (w .there) (w .is ∙ e) in
-          ap (λ (z : ℕ). getD dest₂ z 0) (sym at) ∙ sent .listed i (w .place) g (w .there) (w .is) ∙ sym (moved-listed l fits (placed b) k i g e)
+          let at : getD ord (w .0) 0 ≡ getD starts p 0 + s = place-row (w .0) (w .1) (w .2 ∙ e) in
+          ap (λ (z : ℕ). getD dest₂ z 0) (sym at) ∙ sent .listed i (w .0) g (w .1) (w .2) ∙ sym (moved-listed l fits (placed b) k i g e)
 
       is-unlisted : ((i : ℕ) → i < allEntries l → entryName l i ≡ k → ⊥) → getD dest₂ (getD starts p 0 + s) 0 ≡ placing b l k
       unfolding k

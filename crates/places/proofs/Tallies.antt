@@ -21,11 +21,12 @@ use Rattle.demands.proofs.ForCode.Covered.{covered}
 use Rattle.demands.proofs.ForCode.Sizes.{total, total-none, total-suc, total-same, total-each}
 use Rattle.demands.proofs.ForCode.SpreadRows.{placedIn}
 use Rattle.demands.proofs.ForCode.Counts.{kept-total, placed-by-rows, moved-by-rows}
+use Rattle.moves.proofs.OpenRows.{row-open}
 use Rattle.plan.specs.Plan.{mesh, placing, sentTo, movedCount, Tallied}
 use Rattle.places.specs.Sending.{Tallyable}
 use Rattle.places.specs.Counting.{goes, leaves, howMany, Countable, RowsCounted}
 use Rattle.places.proofs.CountedRows.{many-le}
-use Rattle.places.proofs.ObjectRows.{row-open, open-in}
+use Rattle.places.proofs.ObjectRows.{open-in}
 
 -- how many rows of part p pass
 abbrev inPart : List ℕ → List ℕ → (ℕ → Bool) → ℕ → ℕ
@@ -126,7 +127,7 @@ module _ {b l offs starts table ord dest counts₀ : List ℕ} {n m : ℕ} (aske
         ≡ (eqb (getD table (getD starts p 0 + s) 0) 0 && G (getD dest (getD starts p 0 + s) 0))
     unfolding rowAt
     by-table G p s h =
-        ap (λ (x : Bool). x && G to) (sym (row-open f (asked .covers) p s h)) ∙ go (eqb (getD table g 0) 0) refl
+        ap (λ (x : Bool). x && G to) (sym (row-open (f .copied) (asked .covers) p s h)) ∙ go (eqb (getD table g 0) 0) refl
       where
         g : ℕ
         g = getD starts p 0 + s

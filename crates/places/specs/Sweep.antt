@@ -5,7 +5,7 @@ use mathlib.Core.List.{List}
 use lib.ListN.{length, getD, set}
 use Rattle.paper.specs.Move.{entryName, entryPart, allEntries}
 use Rattle.order.specs.Runs.{keyIn}
-use Rattle.moves.specs.Catalog.{Listing}
+use Rattle.moves.specs.Catalog.{Listing, Present, Behind, Lower}
 
 -- ---- each row its own part
 
@@ -29,30 +29,18 @@ pub record Stayed (starts : List ℕ) (n : ℕ) (dest dest′ : List ℕ) : Type
 
 -- ---- the entries of the list
 
--- the name x stands at a place from `from` on
-pub record Ahead (keys ord : List ℕ) (count from x : ℕ) : Type 0 where
-  pub place : ℕ
-  pub after : from ≤ place
-  pub there : place < count
-  pub is : keyIn keys (getD ord place 0) ≡ x
-
--- it is found at j
-pub record Reached (keys ord : List ℕ) (count from x j : ℕ) : Type 0 where
-  pub after : from ≤ j
-  pub there : j < count
-  pub is : keyIn keys (getD ord j 0) ≡ x
-
--- entry i is whole, and its entity stands at a place from `from` on
+-- entry i is whole, its entity is there, and all before `from` is below its name
 pub record EntryAhead (l keys ord dest : List ℕ) (count from i : ℕ) : Type 0 where
   pub listing : Listing keys ord count
   pub room : (j : ℕ) → j < count → getD ord j 0 < length dest
   pub whole : 8 * i + 8 ≤ length l
   pub part : entryPart l i < 256
-  pub ahead : Ahead keys ord count from (entryName l i)
+  pub there : Present keys ord count (entryName l i)
+  pub behind : Behind keys ord count (entryName l i) from
 
 -- the row of its entity, which stands at j, has the entry's part
-pub record EntrySent (l keys ord : List ℕ) (count from i : ℕ) (dest dest′ : List ℕ) (j : ℕ) : Type 0 where
-  pub reached : Reached keys ord count from (entryName l i) j
+pub record EntrySent (l keys ord : List ℕ) (count i : ℕ) (dest dest′ : List ℕ) (j : ℕ) : Type 0 where
+  pub lower : Lower keys ord count (entryName l i) j
   pub put : dest′ ≡ set dest (getD ord j 0) (entryPart l i)
 
 -- the entries are whole, their names ascend, and each names an entity
@@ -62,7 +50,7 @@ pub record Addressed (l keys ord dest : List ℕ) (count : ℕ) : Type 0 where
   pub whole : (i : ℕ) → i < allEntries l → 8 * i + 8 ≤ length l
   pub part : (i : ℕ) → i < allEntries l → entryPart l i < 256
   pub up : (i : ℕ) → i + 1 < allEntries l → entryName l i < entryName l (i + 1)
-  pub there : (i : ℕ) → i < allEntries l → Ahead keys ord count 0 (entryName l i)
+  pub there : (i : ℕ) → i < allEntries l → Present keys ord count (entryName l i)
 
 -- the row of each entity that one of the first i entries names has that entry's part, and any other row is as it was
 pub record Sent (l keys ord : List ℕ) (count i : ℕ) (dest dest′ : List ℕ) : Type 0 where

@@ -5,11 +5,10 @@ ghost use Prim.Native.Nat.{_+_, _≤_};
 ghost use mathlib.Core.Path.{_≡_};
 ghost use lib.ListN.{length};
 ghost use Rattle.paper.specs.Move.{allEntries};
-ghost use Rattle.moves.specs.Catalog.{Listing};
 ghost use Rattle.plan.specs.Plan.{movedCount, Destined, Tallied};
 ghost use Rattle.places.specs.Sending.{Sendable, Tallyable};
 ghost use Rattle.places.specs.Counting.{Countable, RowCounted, RowsCounted};
-ghost use Rattle.places.specs.Sweep.{Filled, Stretches, Stayed, Ahead, Reached, EntryAhead, EntrySent, Addressed, Sent};
+ghost use Rattle.places.specs.Sweep.{Filled, Stretches, Stayed, EntryAhead, EntrySent, Addressed, Sent};
 
 // v in `count` places from `first` on.
 fn fill(first: usize, count: usize, v: u8, dest: &mut [u8])
@@ -37,19 +36,6 @@ fn stay(starts: &[u32], n: u32, dest: &mut [u8])
     }
 }
 
-// The place of a name that is there from `from` on.
-fn seek(keys: &[u64], ord: &[u32], count: usize, from: usize, name: u64) -> usize
-    requires { ⌜ Listing (now keys) (now ord) count ⌝ }
-    requires { ⌜ Ahead (now keys) (now ord) count from name ⌝ }
-    ensures { λ r. ⌜ Reached (now (keys .entry)) (now (ord .entry)) count from name r ⌝ }
-{
-    let mut j = from;
-    while keys[ord[j] as usize] < name {
-        j += 1;
-    }
-    j
-}
-
 // Sends the entity that entry i names to the entry's part, and answers its place.
 fn send_entry(
     list: &[u8],
@@ -61,11 +47,11 @@ fn send_entry(
     dest: &mut [u8],
 ) -> usize
     requires { ⌜ EntryAhead (now list) (now keys) (now ord) (now dest) count from i ⌝ }
-    ensures { λ r. ⌜ EntrySent (now (list .entry)) (now (keys .entry)) (now (ord .entry)) count from i (now (dest .entry)) (now (dest .exit)) r ⌝ }
+    ensures { λ r. ⌜ EntrySent (now (list .entry)) (now (keys .entry)) (now (ord .entry)) count i (now (dest .entry)) (now (dest .exit)) r ⌝ }
 {
     let name = moves::name_of(list, i);
     let part = moves::part_of(list, i) as u8;
-    let j = seek(keys, ord, count, from, name);
+    let j = moves::seek(keys, ord, count, from, name);
     let row = ord[j] as usize;
     dest[row] = part;
     j
@@ -80,8 +66,7 @@ fn send(list: &[u8], keys: &[u64], ord: &[u32], count: usize, dest: &mut [u8])
     let mut i = 0;
     let mut from: usize = 0;
     while i < total {
-        let j = send_entry(list, keys, ord, count, from, i, dest);
-        from = j + 1;
+        from = send_entry(list, keys, ord, count, from, i, dest);
         i += 1;
     }
 }

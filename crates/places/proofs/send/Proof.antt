@@ -21,9 +21,6 @@ loop-holds c = sweeping-none (c .before .before .before .before .before .pre)
 send-entry-requires : tie.Need-send-entry-requires Inv-loop μ-loop
 send-entry-requires c κs = sweeping-ahead (c .before .before .before .before .before .before .before .before .pre) _ _ _ (c .before .before .loop .inv) (omega (arith, c .before .loop-test .taken, c .before .before .before .entries .ensures))
 
-add-from : tie.Need-add-from Inv-loop μ-loop
-add-from c = omega (arith, c .before .before .send-entry .ensures .reached .there, c .before .before .before .before .before .before .before .before .before .before .before .pre .listing .within)
-
 add-i : tie.Need-add-i Inv-loop μ-loop
 add-i c = omega arith
 
@@ -48,7 +45,6 @@ send-spec =
     entries-requires
     loop-holds
     send-entry-requires
-    add-from
     add-i
     loop-less
     loop-again
