@@ -1,0 +1,3 @@
+pub mod Nan
+pub mod Reading
+pub mod Stands
