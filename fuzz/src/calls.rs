@@ -46,10 +46,7 @@ impl Calls {
             return Ok(());
         }
         self.compare_looks(input)?;
-        if self.library.migrates() {
-            self.compare_migration(input)?;
-        }
-        Ok(())
+        self.compare_migration(input)
     }
 
     fn compare_looks(&mut self, input: &Input) -> Result<(), String> {

@@ -35,14 +35,6 @@ impl Comparison {
         }
     }
 
-    /// The refusals that the library's calls can give.
-    pub fn refusals(&self) -> Vec<usize> {
-        let moves = 13..20;
-        (1..22)
-            .filter(|number| self.library.migrates() || !moves.contains(number))
-            .collect()
-    }
-
     pub fn calls(&self) -> u64 {
         self.answers.iter().sum()
     }
@@ -85,9 +77,6 @@ impl Comparison {
         work_words: usize,
     ) -> Outcome<Result<Migrated, Refusal>> {
         let expected = migrate(image, list, out_len, work_words);
-        if !self.library.migrates() {
-            return Ok(expected);
-        }
         let second = migrated_answer(&expected);
         self.answers[second.refusal as usize] += 1;
         let mut second_out = out_pattern(out_len + GUARD);

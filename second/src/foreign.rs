@@ -69,13 +69,13 @@ type BoxCall = unsafe extern "C" fn(*const u8, usize, u32) -> DmpBoxed;
 
 pub struct Library {
     check: CheckCall,
-    migrate: Option<MigrateCall>,
+    migrate: MigrateCall,
     lookup: LookupCall,
     boxed: BoxCall,
 }
 
 impl Library {
-    /// Opens the shared object and finds its calls. One that has no migration yet is compared on the other three.
+    /// Opens the shared object and finds its four calls.
     pub fn open(path: &str) -> Result<Library, String> {
         let path = CString::new(path).map_err(|e| e.to_string())?;
         // SAFETY: the path is a string with a final zero; a null handle is looked at before use.
@@ -87,9 +87,10 @@ impl Library {
         unsafe {
             Ok(Library {
                 check: std::mem::transmute::<*mut c_void, CheckCall>(symbol(handle, c"dmp_check")?),
-                migrate: symbol(handle, c"dmp_migrate")
-                    .ok()
-                    .map(|call| std::mem::transmute::<*mut c_void, MigrateCall>(call)),
+                migrate: std::mem::transmute::<*mut c_void, MigrateCall>(symbol(
+                    handle,
+                    c"dmp_migrate",
+                )?),
                 lookup: std::mem::transmute::<*mut c_void, LookupCall>(symbol(
                     handle,
                     c"dmp_lookup",
@@ -104,10 +105,6 @@ impl Library {
         unsafe { (self.check)(image.as_ptr(), image.len()) }
     }
 
-    pub fn migrates(&self) -> bool {
-        self.migrate.is_some()
-    }
-
     pub fn migrate(
         &self,
         image: &[u8],
@@ -115,10 +112,9 @@ impl Library {
         out: &mut [u8],
         work: &mut [u64],
     ) -> DmpMigrated {
-        let call = self.migrate.expect("asked only of a library that migrates");
         // SAFETY: each pointer and its length are those of one slice, and the slices don't overlap.
         unsafe {
-            call(
+            (self.migrate)(
                 image.as_ptr(),
                 image.len(),
                 list.as_ptr(),
