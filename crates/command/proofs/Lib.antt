@@ -1,3 +1,1 @@
-pub mod Nan
-pub mod Reading
 pub mod Stands

@@ -1,13 +1,10 @@
 // The tasks: each asks the library about the image and prints the answer.
-use crate::files;
-use crate::lines;
 use crate::migration;
 use crate::room;
-use crate::words;
+use arguments::Task;
+use decimal::reading::Parsed;
 use paper::Number;
 use paper::Part;
-use words::Parsed;
-use words::Task;
 ghost use Prim.Native.Nat.{min};
 ghost use mathlib.Core.Path.{_≡_};
 
@@ -19,26 +16,26 @@ fn dimension(n: u32) -> u8
 }
 
 fn lookup(image: &[u8]) -> u64 {
-    let Parsed::Number(dim) = words::number(3, b"DIM") else {
+    let Parsed::Number(dim) = arguments::number(3, b"DIM") else {
         return 2;
     };
-    let Parsed::Number(number) = words::number(4, b"NUMBER") else {
+    let Parsed::Number(number) = arguments::number(4, b"NUMBER") else {
         return 2;
     };
-    lines::found(query::lookup(image, dimension(dim), Number(number)))
+    replies::found(query::lookup(image, dimension(dim), Number(number)))
 }
 
 fn box_of(image: &[u8]) -> u64 {
-    let Parsed::Number(part) = words::number(3, b"PART") else {
+    let Parsed::Number(part) = arguments::number(3, b"PART") else {
         return 2;
     };
-    lines::boxed(query::box_of(image, Part(part)))
+    replies::boxed(query::box_of(image, Part(part)))
 }
 
 fn answer(task: Task, image: &[u8]) -> u64 {
     match task {
-        Task::Check => lines::checked(sound::check(image)),
-        Task::List => lines::listing(image),
+        Task::Check => replies::checked(sound::check(image)),
+        Task::List => replies::listing(image),
         Task::Lookup => lookup(image),
         Task::Box => box_of(image),
         Task::Migrate => migration::migrate(image),

@@ -1,2 +1,1 @@
-pub mod Sizing
-pub mod Steps
+pub mod Delivery

@@ -6,18 +6,18 @@ use mathlib.Core.Path.{_≡_, refl, sym, ap, _∙_}
 use mathlib.Core.Bool.{Bool, cond}
 use mathlib.Core.List.{List, [], _∷_, _++_, append-nil}
 use lib.ListN.{length, take, drop, length-append, length-drop, take-append-drop, drop-of-length-le}
-use lib.Seq.{sets, set-out, sets-eq, length-take-le}
-use lib.Dec.{T, ltb}
+use lib.Seq.{sets, set-out, length-take-le}
+use lib.Dec.{T}
 use lib.Pow.{areBytes}
 use borrow.Author.Tests.{lt-ltb, le-ltb}
-use Rattle.field.proofs.Stores.{sets-append}
+use Rattle.laws.proofs.Stores.{sets-append, sets-front}
 use Rattle.paper.specs.Sound.{soundOf}
 use Rattle.paper.specs.Listing.{answerText, tooLong, maxListing, listingOf}
 use Rattle.text.specs.declared.Written.{Written}
 use Rattle.text.specs.declared.Written.the-variants.{Bytes, Short}
-use Rattle.text.specs.Writing.{Wrote}
+use Rattle.decimal.specs.Writing.{Wrote}
 use Rattle.text.specs.Listed.{Whole, Cut, Listed}
-use Rattle.text.proofs.Runs.{wrote-same}
+use Rattle.decimal.proofs.Runs.{wrote-same}
 use Rattle.text.proofs.answers.Sizes.{listing-length}
 
 -- ---- which text
@@ -36,16 +36,13 @@ sets-past : (l : List ℕ) (i : ℕ) (xs : List ℕ) → length l ≤ i → sets
 sets-past l i [] h = refl
 sets-past l i (x ∷ xs) h = ap (λ (m : List ℕ). sets m (suc i) xs) (set-out l i x h) ∙ sets-past l (suc i) xs (omega arith)
 
-front-whole : (l xs : List ℕ) → length xs ≤ length l → sets l 0 xs ≡ xs ++ drop (length xs) l
-front-whole l xs h = let e : 0 + length xs ≡ length xs = omega arith in sets-eq xs l 0 (omega arith) ∙ ap (λ (k : ℕ). xs ++ drop k l) e
-
 front-cut : (l xs : List ℕ) → length l ≤ length xs → sets l 0 xs ≡ take (length l) xs
 front-cut l xs h =
     let n = length l in
     let same : length (take n xs) ≡ n = length-take-le n xs h in
     ap (sets l 0) (sym (take-append-drop n xs)) ∙ sets-append l 0 (take n xs) (drop n xs)
     ∙ ap (λ (m : List ℕ). sets m (0 + length (take n xs)) (drop n xs))
-    (front-whole l (take n xs) (omega arith) ∙ ap (λ (m : List ℕ). take n xs ++ m) (drop-of-length-le l {i = length (take n xs)} (omega arith)) ∙ append-nil (take n xs))
+    (sets-front l (take n xs) (omega arith) ∙ ap (λ (m : List ℕ). take n xs ++ m) (drop-of-length-le l {i = length (take n xs)} (omega arith)) ∙ append-nil (take n xs))
     ∙ sets-past (take n xs) (0 + length (take n xs)) (drop n xs) (omega arith)
 
 -- ---- what the answer says
@@ -65,7 +62,7 @@ module _ (b : List ℕ) {out out′ : List ℕ} {to : ℕ} (wrote : Wrote out 0 
       record {
         count = sym e;
         room = omega (arith, h, wrote-same wrote);
-        bytes = wrote .bytes ∙ front-whole out (listingOf b) (omega (arith, h, e, wrote-same wrote)) ∙ ap (λ (k : ℕ). listingOf b ++ drop k out) e;
+        bytes = wrote .bytes ∙ sets-front out (listingOf b) (omega (arith, h, e, wrote-same wrote)) ∙ ap (λ (k : ℕ). listingOf b ++ drop k out) e;
       }
 
 -- no second answer, and no second content of the buffer, meets the contract

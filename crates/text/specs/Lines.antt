@@ -7,10 +7,11 @@ use lib.ListN.{length}
 use Rattle.laws.specs.Lists.{flat, zip}
 use Rattle.part_set.specs.Masks.{has, others}
 use Rattle.paper.specs.Image.{Row, rowLength}
-use Rattle.paper.specs.Listing.{decimal, line, copyText, refusedWord}
+use Rattle.decimal.specs.Decimal.{decimal}
+use Rattle.paper.specs.Listing.{line, copyText, refusedWord}
 use Rattle.index.specs.Index.{rowFrom, setIn, Indexed}
-use Rattle.rules.specs.declared.Rule.the-variants.{Fields}
-use Rattle.rules.specs.Judged.{Passed}
+use Rattle.paper.specs.declared.Rule.the-variants.{Fields}
+use Rattle.demands.specs.Passed.{Passed}
 
 -- each field behind a space
 unfoldable pub spaced : List (List ℕ) → List ℕ

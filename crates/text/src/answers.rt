@@ -1,10 +1,10 @@
 // The text for each answer of the check: a refusal's line, or the head and the lines of a sound set.
-use crate::bytes::put_byte;
-use crate::bytes::put_field;
-use crate::bytes::put_text;
 use crate::lines::put_set;
+use decimal::writing::put_byte;
+use decimal::writing::put_field;
+use decimal::writing::put_text;
+use paper::CheckAnswer;
 use paper::Refusal;
-use sound::Examined;
 ghost use Prim.Native.Nat.{_≤_};
 ghost use mathlib.Core.Path.{_≡_};
 ghost use lib.ListN.{length};
@@ -12,7 +12,7 @@ ghost use Rattle.paper.specs.Outcome.{accepted};
 ghost use Rattle.paper.specs.Sound.{soundOf};
 ghost use Rattle.paper.specs.Listing.{headLine, answerText};
 ghost use Rattle.index.specs.Index.{setIn};
-ghost use Rattle.text.specs.Writing.{Room, Wrote};
+ghost use Rattle.decimal.specs.Writing.{Room, Wrote};
 ghost use Rattle.text.specs.Lines.{refusalLine, Listable};
 
 // The line of a refusal: `refused`, number, place.
@@ -49,32 +49,17 @@ fn put_sound(image: &[u8], offs: &[u32], starts: &[u32], n: u32, out: &mut [u8])
     put_set(image, offs, starts, n, out, rows)
 }
 
-// The text for the answer of the check. The tables are local, as in sound::check.
+// The text for the answer of the check.
 pub fn put_answer(image: &[u8], out: &mut [u8]) -> usize
     requires { ⌜ length (now image) ≤ 65536 ⌝ }
     ensures { λ r. ⌜ Wrote (now (out .entry)) 0 (answerText (soundOf (now (image .entry)))) (now (out .exit)) r ⌝ }
 {
-    let mut offs = [0u32; 21846];
-    let mut keys = [0u64; 21846];
-    let mut starts = [0u32; 65];
-    let mut covered = [0u8; 21846];
-    let mut counts = [0u32; 64];
-    let mut ord = [0u32; 21846];
-    let examined = sound::examine(
-        image,
-        &mut offs,
-        &mut keys,
-        &mut starts,
-        &mut covered,
-        &mut counts,
-        &mut ord,
-    );
-    match examined {
-        Examined::Refused(r) => put_refusal(out, 0, r),
-        Examined::Sound {
-            parts,
-            rows,
-            entities,
-        } => put_sound(image, &offs, &starts, parts, out),
+    let mut offs = [0u32; paper::ROW_ENTRIES];
+    let mut starts = [0u32; paper::PART_ENTRIES];
+    let mut keys = [0u64; paper::ROW_ENTRIES];
+    let surveyed = sound::survey(image, &mut offs, &mut starts, &mut keys);
+    match surveyed {
+        CheckAnswer::Refused(r) => put_refusal(out, 0, r),
+        CheckAnswer::Sound { parts, rows } => put_sound(image, &offs, &starts, parts, out),
     }
 }

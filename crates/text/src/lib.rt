@@ -1,11 +1,11 @@
 // The listing of an image: its text, written into a lent buffer. Each writer puts its bytes from `at` on, as far as the buffer has room for
 // them, and answers where the next one goes on.
 pub mod answers;
-pub mod bytes;
 pub mod lines;
 
+use decimal::writing::put_text;
 ghost use Rattle.paper.specs.Listing.{listingOf};
-ghost use Rattle.text.specs.Writing.{Wrote};
+ghost use Rattle.decimal.specs.Writing.{Wrote};
 ghost use Rattle.text.specs.Listed.{Listed};
 
 // How many bytes the text has, which stand at the front of the buffer, or that the buffer is too short.
@@ -19,7 +19,7 @@ fn put_listing(image: &[u8], out: &mut [u8]) -> usize
     ensures { λ r. ⌜ Wrote (now (out .entry)) 0 (listingOf (now (image .entry))) (now (out .exit)) r ⌝ }
 {
     if 65536 < image.len() {
-        return bytes::put_text(out, 0, b"too long\n");
+        return put_text(out, 0, b"too long\n");
     }
     answers::put_answer(image, out)
 }

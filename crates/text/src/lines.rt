@@ -1,16 +1,17 @@
 // The lines of a set: a line for each row, part by part.
-use crate::bytes::put_byte;
-use crate::bytes::put_decimal;
-use crate::bytes::put_field;
+use decimal::writing::put_byte;
+use decimal::writing::put_decimal;
+use decimal::writing::put_field;
 use paper::Part;
 use paper::Slot;
 ghost use mathlib.Core.List.{[], _∷_};
 ghost use Prim.Native.Nat.{_<_};
 ghost use mathlib.Core.Path.{_≡_};
 ghost use lib.ListN.{length, getD};
-ghost use Rattle.paper.specs.Listing.{decimal, copyText, rowLine, partLines, setLines};
+ghost use Rattle.decimal.specs.Decimal.{decimal};
+ghost use Rattle.paper.specs.Listing.{copyText, rowLine, partLines, setLines};
 ghost use Rattle.index.specs.Index.{rowFrom, setIn};
-ghost use Rattle.text.specs.Writing.{Room, Wrote};
+ghost use Rattle.decimal.specs.Writing.{Room, Wrote};
 ghost use Rattle.text.specs.Lines.{numbersText, copiesText, RowThere, Listable};
 
 // A space and a remote copy as part:slot.
@@ -103,11 +104,11 @@ fn put_part(
     requires { ⌜ Room at (partLines (part .0) (getD (setIn (now image)) (part .0) [])) ⌝ }
     ensures { λ r. ⌜ Wrote (now (out .entry)) at (partLines (part .0) (getD (setIn (now (image .entry))) (part .0) [])) (now (out .exit)) r ⌝ }
 {
-    let rows = rules::rows::rows_in(starts, part);
+    let rows = rows::rows_in(starts, part);
     let mut to = at;
     let mut s = 0;
     while s < rows {
-        let row = rules::rows::offset_of(offs, starts, part, Slot(s));
+        let row = rows::offset_of(offs, starts, part, Slot(s));
         to = put_row(image, row, part, Slot(s), out, to);
         s += 1;
     }

@@ -1,9 +1,9 @@
 -- `migrate::deliver`: refused by sizing, or where the output is too short, or written. Assumes nothing.
 use borrow.Author.Needs.{needs}
 use native.Mathlib.Omega.{arith}
-use Rattle.migrate.proofs.Amounts.{bytes-is, bytes-fit, rows-fit}
-use Rattle.migrate.proofs.Answers.{size-stops, short-output, delivered}
-use Rattle.migrate.proofs.Fitting.{is-refused, is-sized}
+use Rattle.sizing.proofs.Amounts.{bytes-is, bytes-fit, rows-fit}
+use Rattle.migrate.proofs.Delivered.{size-stops, short-output, delivered}
+use Rattle.sizing.proofs.Fitting.{is-refused, is-sized}
 use Rattle.migrate.proofs.deliver.Statement.{statement}
 use Rattle.migrate.proofs.deliver.Tie as tie
 

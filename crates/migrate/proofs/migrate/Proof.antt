@@ -5,9 +5,9 @@ use mathlib.Core.Path.{ap, _∙_}
 use mathlib.Core.List.{List}
 use lib.ListN.{length, getD}
 use native.Mathlib.Omega.{arith}
-use Rattle.rules.proofs.covered.Marks.{zeros-at}
-use Rattle.migrate.proofs.Answers.{migrates}
-use Rattle.migrate.proofs.Fitting.{with-words}
+use Rattle.residence.proofs.covered.Marks.{zeros-at}
+use Rattle.migrate.proofs.Delivered.{migrates}
+use Rattle.sizing.proofs.Fitting.{with-words}
 use Rattle.migrate.proofs.migrate.Statement.{statement}
 use Rattle.migrate.proofs.migrate.Tie as tie
 
@@ -36,7 +36,7 @@ size-requires : tie.Need-size-requires
 size-requires c κs =
     let cleared = c .before .before .before .before .before .before .before .before .before in
     let s = cleared .before .before .before .before .before .before in (
-      record { offs-room = omega arith; keys-room = omega arith; starts-room = omega arith; ord-room = omega arith },
+      record { index = record { offs-room = omega arith; starts-room = omega arith; keys-room = omega arith }; ord-room = omega arith },
       record {
         blank = λ g. ap (λ (w : List ℕ). getD w g 0) (cleared .clear .ensures) ∙ zeros-at (length (s .args .work .now)) g;
         ent-room = omega arith;

@@ -4,17 +4,17 @@ use native.Mathlib.Omega.{arith}
 use mathlib.Core.Path.{_≡_, sym, ap, _∙_, subst}
 use mathlib.Core.List.{List}
 use lib.ListN.{length}
-use lib.Dec.{T, lit<}
+use lib.Dec.{T}
 use lib.Pow.{areBytes}
 use Rattle.paper.specs.Outcome.{Outcome, Place, refused, accepted}
 use Rattle.paper.specs.Image.{Set}
 use Rattle.paper.specs.Sound.{soundOf}
 use Rattle.paper.specs.Listing.{answerText}
 use Rattle.index.specs.Index.{setIn, Indexed}
-use Rattle.rules.specs.declared.Rule.the-variants.{Fields}
-use Rattle.sound.specs.Stages.{SoundImage}
+use Rattle.paper.specs.declared.Rule.the-variants.{Fields}
+use Rattle.sound.specs.Stages.{SoundIndex}
 use Rattle.text.specs.Lines.{refusalLine, Listable}
-use Rattle.text.specs.Writing.{Room}
+use Rattle.decimal.specs.Writing.{Room}
 use Rattle.text.proofs.answers.Sizes.{refusal-length, refusal-text, answer-length}
 
 -- ---- a refusal
@@ -27,9 +27,9 @@ refused-text b {k} {p} e = sym (refusal-text k p) ∙ ap answerText (sym e)
 
 -- ---- a sound image
 
-module _ {b offs keys starts covered counts ord : List ℕ} {n rows entities : ℕ} (image : SoundImage b offs keys starts covered counts ord n rows entities) where
+module _ {b offs starts : List ℕ} {n : ℕ} (image : SoundIndex b offs starts n) where
   pub listable : Listable b offs starts
-  listable = record { index = subst (Indexed b offs starts) (sym (image .indexed .count)) (image .indexed); fits = image .passed Fields (lit< tt) }
+  listable = record { index = subst (Indexed b offs starts) (sym (image .indexed .count)) (image .indexed); fits = image .passed Fields }
 
   pub parts : n ≡ length (setIn b)
   parts = sym (image .indexed .count)

@@ -18,12 +18,13 @@ use Rattle.part_set.proofs.MaskParts.{others-in}
 use Rattle.paper.specs.Outcome.{Outcome, Place, refused, accepted}
 use Rattle.paper.specs.Image.{Row, Set, noRow, remotes, rowLength, rowBytes, partBytes, imageOf, rowAt}
 use Rattle.paper.specs.Sound.{soundOf}
-use Rattle.paper.specs.Listing.{digits, decimal, copyText, rowLine, partLines, setLines, headLine, refusedWord, tooLong, answerText, maxListing, listingOf}
+use Rattle.decimal.specs.Decimal.{decimal}
+use Rattle.paper.specs.Listing.{copyText, rowLine, partLines, setLines, headLine, refusedWord, tooLong, answerText, maxListing, listingOf}
 use Rattle.paper.proofs.RowBack.{RowFits, length-row}
 use Rattle.demands.proofs.Sound.Facts.{Sound, sound-inv}
 use Rattle.text.specs.Lines.{spaced, numbersText, copiesText, refusalLine}
-use Rattle.text.proofs.Runs.{Splits}
-use Rattle.text.proofs.Decimals.{length-decimal, length-below}
+use Rattle.decimal.proofs.Runs.{Splits}
+use Rattle.decimal.proofs.Decimals.{length-decimal, length-below}
 use Rattle.text.proofs.lines.Parts.{spaced-none, spaced-next, numbers-split, copy-split, row-split}
 use Rattle.text.proofs.answers.Words.{fields-next, fields-none, head-split, refusal-split, sound-split}
 

@@ -6,9 +6,10 @@ use lib.ListN.{length}
 use Rattle.laws.specs.Lists.{flat}
 use Rattle.paper.specs.Outcome.{accepted}
 use Rattle.paper.specs.Image.{Set}
-use Rattle.paper.specs.Listing.{decimal, joined, line, headLine, setLines, refusedWord, answerText}
+use Rattle.decimal.specs.Decimal.{decimal}
+use Rattle.paper.specs.Listing.{joined, line, headLine, setLines, refusedWord, answerText}
 use Rattle.text.specs.Lines.{spaced, refusalLine}
-use Rattle.text.proofs.Runs.{Splits}
+use Rattle.decimal.proofs.Runs.{Splits}
 use Rattle.text.proofs.lines.Parts.{joined-spaced}
 
 pub line-split : (word : List ℕ) (fs : List (List ℕ)) → Splits (line (word ∷ fs)) word (spaced fs ++ (10 ∷ []))

@@ -11,16 +11,17 @@ use lib.Dec.{T}
 use Rattle.laws.specs.Lists.{zip}
 use Rattle.laws.proofs.Tests.{true-T}
 use Rattle.field.specs.Bytes.{u32At, u64At, words}
+use Rattle.field.proofs.Reading.{u32-drop}
 use Rattle.part_set.specs.Masks.{has, partsIn, others, count, lowestOf, Rest}
 use Rattle.part_set.proofs.MaskParts.{others-count}
 use Rattle.part_set.proofs.Walk.{parts-none, count-parts}
 use Rattle.paper.specs.Image.{remotes, rowLength}
 use Rattle.paper.specs.Listing.{copyText}
 use Rattle.index.specs.Index.{rowFrom}
-use Rattle.index.proofs.RowFields.{u32-drop, row-mask, row-slots, row-length}
+use Rattle.index.proofs.RowFields.{row-mask, row-slots, row-length}
 use Rattle.text.specs.Lines.{spaced, copiesText, RowThere}
-use Rattle.text.specs.Writing.{Room, Wrote}
-use Rattle.text.proofs.Runs.{Splits, Left, left-all, left-room, left-next, left-done, room-as, wrote-as}
+use Rattle.decimal.specs.Writing.{Room, Wrote}
+use Rattle.decimal.proofs.Runs.{Splits, Left, left-all, left-room, left-next, left-done, room-as, wrote-as}
 use Rattle.text.proofs.lines.Parts.{spaced-none, spaced-next}
 
 rest-count : {w r : ℕ} → Rest w r → count w ≡ suc (count r)

@@ -5,9 +5,10 @@ use mathlib.Core.List.{List, [], _∷_, _++_, map, append-assoc, append-nil}
 use Rattle.laws.specs.Lists.{flat, zip}
 use Rattle.part_set.specs.Masks.{others}
 use Rattle.paper.specs.Image.{Row}
-use Rattle.paper.specs.Listing.{decimal, joined, line, copyText, rowLine}
+use Rattle.decimal.specs.Decimal.{decimal}
+use Rattle.paper.specs.Listing.{joined, line, copyText, rowLine}
 use Rattle.text.specs.Lines.{spaced, numbersText, copiesText}
-use Rattle.text.proofs.Runs.{Splits}
+use Rattle.decimal.proofs.Runs.{Splits}
 
 pub byte-first : (v : ℕ) (bs : List ℕ) → Splits (v ∷ bs) (v ∷ []) bs
 byte-first v bs = record { is = refl }

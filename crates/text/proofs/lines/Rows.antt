@@ -13,11 +13,11 @@ use Rattle.paper.specs.Image.{Row, Set, rowLength, rowAt}
 use Rattle.paper.specs.Listing.{rowLine, partLines, setLines}
 use Rattle.index.specs.Index.{rowFrom, setIn, Indexed}
 use Rattle.index.proofs.RowFields.{row-number, row-dim, row-owner, row-mask}
-use Rattle.rules.proofs.rows.Laws.{part-rows, part-there, row-there}
-use Rattle.rules.proofs.copies.Placed.{row-fits}
+use Rattle.rows.proofs.Laws.{part-rows, part-there, row-there}
+use Rattle.copies.proofs.Placed.{row-fits}
 use Rattle.text.specs.Lines.{numbersText, RowThere, Listable}
-use Rattle.text.specs.Writing.{Room, Wrote}
-use Rattle.text.proofs.Runs.{Splits, textsFrom, room-as, wrote-as}
+use Rattle.decimal.specs.Writing.{Room, Wrote}
+use Rattle.decimal.proofs.Runs.{Splits, textsFrom, room-as, wrote-as}
 use Rattle.text.proofs.lines.Parts.{rowNumbers}
 
 -- ---- the numbers of the row at o, as they are read

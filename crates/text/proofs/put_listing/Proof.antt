@@ -1,6 +1,6 @@
 -- `text::put_listing` meets its contract: the line for an input that is too long, or the answer's text. Assumes nothing.
 use borrow.Author.Needs.{needs}
-use Rattle.text.proofs.Runs.{wrote-as}
+use Rattle.decimal.proofs.Runs.{wrote-as}
 use Rattle.text.proofs.Ends.{listing-long, listing-read}
 use Rattle.text.proofs.put_listing.Statement.{statement}
 use Rattle.text.proofs.put_listing.Tie as tie

@@ -1,7 +1,7 @@
 -- `text::answers::put_head` meets its contract: the mark, the version, the part count, the line feed. Assumes nothing.
 use borrow.Author.Needs.{needs}
 use mathlib.Core.Path.{sym}
-use Rattle.text.proofs.Runs.{room-first, room-next, room-as, wrote-both, wrote-as}
+use Rattle.decimal.proofs.Runs.{room-first, room-next, room-as, wrote-both, wrote-as}
 use Rattle.text.proofs.answers.Words.{head-split, fields-next, fields-none}
 use Rattle.text.proofs.answers.put_head.Statement.{statement}
 use Rattle.text.proofs.answers.put_head.Tie as tie

@@ -1,7 +1,7 @@
 -- `text::answers::put_refusal` meets its contract: the word, the number, the place, the line feed. Assumes nothing.
 use borrow.Author.Needs.{needs}
 use mathlib.Core.Path.{sym}
-use Rattle.text.proofs.Runs.{room-first, room-next, room-as, wrote-both, wrote-as}
+use Rattle.decimal.proofs.Runs.{room-first, room-next, room-as, wrote-both, wrote-as}
 use Rattle.text.proofs.answers.Words.{refusal-split, fields-next, fields-none}
 use Rattle.text.proofs.answers.put_refusal.Statement.{statement}
 use Rattle.text.proofs.answers.put_refusal.Tie as tie

@@ -2,7 +2,7 @@
 use borrow.Author.Needs.{needs}
 use mathlib.Core.Path.{sym, ap}
 use Rattle.paper.specs.Listing.{headLine}
-use Rattle.text.proofs.Runs.{room-first, room-next, room-as, wrote-both, wrote-as}
+use Rattle.decimal.proofs.Runs.{room-first, room-next, room-as, wrote-both, wrote-as}
 use Rattle.text.proofs.answers.Words.{sound-split}
 use Rattle.text.proofs.answers.put_sound.Statement.{statement}
 use Rattle.text.proofs.answers.put_sound.Tie as tie

@@ -1,6 +1,6 @@
 -- `text::lines::put_copy` meets its contract: the part, a colon, the slot. Assumes nothing.
 use borrow.Author.Needs.{needs}
-use Rattle.text.proofs.Runs.{room-first, room-next, wrote-both}
+use Rattle.decimal.proofs.Runs.{room-first, room-next, wrote-both}
 use Rattle.text.proofs.lines.Parts.{byte-first, copy-split}
 use Rattle.text.proofs.lines.put_copy.Statement.{statement}
 use Rattle.text.proofs.lines.put_copy.Tie as tie

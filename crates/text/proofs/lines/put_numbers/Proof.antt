@@ -1,7 +1,7 @@
 -- `text::lines::put_numbers` meets its contract: six writers in a row. Assumes nothing.
 use borrow.Author.Needs.{needs}
 use mathlib.Core.Path.{sym}
-use Rattle.text.proofs.Runs.{room-first, room-next, wrote-both, wrote-as}
+use Rattle.decimal.proofs.Runs.{room-first, room-next, wrote-both, wrote-as}
 use Rattle.text.proofs.lines.Parts.{numbers-split, spaced-next, spaced-last}
 use Rattle.text.proofs.lines.put_numbers.Statement.{statement}
 use Rattle.text.proofs.lines.put_numbers.Tie as tie

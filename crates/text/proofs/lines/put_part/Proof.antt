@@ -6,7 +6,7 @@ use mathlib.Core.Path.{sym}
 use lib.ListN.{length, getD}
 use Rattle.paper.specs.Listing.{partLines}
 use Rattle.index.specs.Index.{setIn}
-use Rattle.text.proofs.Runs.{Left, left-all, left-room, left-next, left-done, room-as, wrote-as, textsFrom, texts-next, texts-end}
+use Rattle.decimal.proofs.Runs.{Left, left-all, left-room, left-next, left-done, room-as, wrote-as, textsFrom, texts-next, texts-end}
 use Rattle.text.proofs.lines.Rows.{rowText, part-lines, rows-asked, rows-are, offset-asked, row-stands, row-text}
 use Rattle.text.proofs.lines.put_part.Statement.{statement}
 use Rattle.text.proofs.lines.put_part.Tie as tie

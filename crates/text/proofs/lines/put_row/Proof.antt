@@ -2,7 +2,7 @@
 use borrow.Author.Needs.{needs}
 use native.Mathlib.Omega.{arith}
 use mathlib.Core.Path.{sym}
-use Rattle.text.proofs.Runs.{room-first, room-next, room-as, wrote-both, wrote-as}
+use Rattle.decimal.proofs.Runs.{room-first, room-next, room-as, wrote-both, wrote-as}
 use Rattle.text.proofs.lines.Parts.{row-split, feed-split}
 use Rattle.text.proofs.lines.Copies.{head-room}
 use Rattle.text.proofs.lines.Rows.{numbers-read}

@@ -4,7 +4,7 @@ use native.Mathlib.Omega.{arith}
 use lib.ListN.{length}
 use Rattle.paper.specs.Listing.{setLines}
 use Rattle.index.specs.Index.{setIn}
-use Rattle.text.proofs.Runs.{Left, left-all, left-room, left-next, left-done, textsFrom, texts-next, texts-end}
+use Rattle.decimal.proofs.Runs.{Left, left-all, left-room, left-next, left-done, textsFrom, texts-next, texts-end}
 use Rattle.text.proofs.lines.Rows.{partText, set-lines}
 use Rattle.text.proofs.lines.put_set.Statement.{statement}
 use Rattle.text.proofs.lines.put_set.Tie as tie

@@ -1,0 +1,3 @@
+// Whole numbers in decimal, written and read. Nothing here knows of meshes.
+pub mod reading;
+pub mod writing;
