@@ -13,27 +13,28 @@ use Rattle.paper.specs.Outcome.{Outcome, refused, accepted, answered, _>>=_}
 use Rattle.paper.specs.Image.{Set, rowTotal}
 use Rattle.paper.specs.Sound.{Checked, soundOf, checkOf}
 use Rattle.paper.specs.Move.{Migrated, Sizes, sizesOf, outAfter}
-use Rattle.paper.specs.Answers.{placeOf, migrateAnswer}
+use Rattle.paper.specs.Answers.{migrateAnswer}
+use Rattle.paper.specs.Outcome.{placeOf}
 use Rattle.paper.specs.Promises.{Checks}
 use Rattle.paper.proofs.Outcomes.{accepted-inj, not-refused, bind-inv}
 use Rattle.paper.proofs.Injective.{migrate-one}
 use Rattle.demands.specs.History.{answer}
 use Rattle.demands.proofs.Theorems.Statements.{Accepts}
-use Rattle.calls.specs.Calls.{Call, CallKept, imageLeft, held, ask, setOr, setIn}
+use Rattle.calls.specs.Calls.{Call, CallKept, imageLeft, held, ask, setOr, setHeld}
 
 -- ---- what check accepts: its set, and the numbers that check answers
 
 pub record SoundSet (b : List ℕ) (parts rows : ℕ) : Type 0 where
-  pub accepts : Accepts b (setIn b)
-  pub count : length (setIn b) ≡ parts
-  pub total : rowTotal (setIn b) ≡ rows
+  pub accepts : Accepts b (setHeld b)
+  pub count : length (setHeld b) ≡ parts
+  pub total : rowTotal (setHeld b) ≡ rows
 
-pub set-is : (b : List ℕ) (S : Set) → Accepts b S → setIn b ≡ S
-unfolding setIn setOr
+pub set-is : (b : List ℕ) (S : Set) → Accepts b S → setHeld b ≡ S
+unfolding setHeld setOr
 set-is b S a = ap setOr a
 
 -- the set of an image that the definitions accept
-pub set-accepted : (b : List ℕ) → (S : Set) × Accepts b S → Accepts b (setIn b)
+pub set-accepted : (b : List ℕ) → (S : Set) × Accepts b S → Accepts b (setHeld b)
 set-accepted b w = subst (Accepts b) (sym (set-is b (w .0) (w .1))) (w .1)
 
 -- an image for which check answers Sound is one that the definitions accept

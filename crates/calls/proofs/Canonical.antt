@@ -16,7 +16,7 @@ use Rattle.demands.proofs.Theorems.Statements.{mesh, places}
 use Rattle.demands.proofs.Theorems.T1.{theorem-1}
 use Rattle.demands.proofs.Theorems.T2.{theorem-2}
 use Rattle.demands.proofs.Theorems.T3.{theorem-3}
-use Rattle.calls.specs.Calls.{setIn, meshHeld, placesHeld}
+use Rattle.calls.specs.Calls.{setHeld, meshHeld, placesHeld}
 use Rattle.calls.proofs.Answered.{set-is, sound-answer, answer-sound}
 
 pub sound-is-canonical : (b : List ℕ) (parts rows : ℕ) → T (areBytes b) → Checks b (check.Sound parts rows)
@@ -24,7 +24,7 @@ pub sound-is-canonical : (b : List ℕ) (parts rows : ℕ) → T (areBytes b) �
 unfolding imageFor
 sound-is-canonical b parts rows y k =
     let s = sound-answer b parts rows k in
-    let t = theorem-1 b (setIn b) y (s .accepts) in
+    let t = theorem-1 b (setHeld b) y (s .accepts) in
     subst (λ (n : ℕ). (b ≡ imageFor n (meshHeld b) (placesHeld b)) × WellPlaced n (meshHeld b) (placesHeld b)) (s .count)
     (t .bytes ∙ ap (λ (ps : Parts). imageOf (rowsFor ps)) (t .parts), t .fits)
 
@@ -37,7 +37,7 @@ module _ (n : ℕ) (es : List Entity) (place : Placement) (fits : WellPlaced n e
   pub canonical-holds : (meshHeld (imageFor n es place) ≡ es) × (placesOf es (placesHeld (imageFor n es place)) ≡ placesOf es place)
   canonical-holds =
       let t = theorem-3 n es place fits small in
-      let is : setIn (imageFor n es place) ≡ rowsFor (spread n es place) = set-is (imageFor n es place) (rowsFor (spread n es place)) (theorem-2 n es place fits small) in (
+      let is : setHeld (imageFor n es place) ≡ rowsFor (spread n es place) = set-is (imageFor n es place) (rowsFor (spread n es place)) (theorem-2 n es place fits small) in (
         ap mesh is ∙ ap meshOf (t .parts) ∙ t .mesh,
         ap (λ (S : Set). placesOf es (places S)) is ∙ ap (λ (ps : Parts). placesOf es (placeIn ps)) (t .parts) ∙ t .places,
       )

@@ -18,7 +18,7 @@ use Rattle.paper.specs.Sound.{Checked, soundOf, checkOf}
 use Rattle.paper.specs.Move.{migrateOf, sizesOf, outAfter, workAfter}
 use Rattle.paper.specs.Lookup.{lookupOf}
 use Rattle.paper.specs.Box.{boxOf}
-use Rattle.paper.specs.Answers.{placeOf}
+use Rattle.paper.specs.Outcome.{placeOf}
 use Rattle.paper.specs.Promises.{Checks, LooksUp, Bounds}
 use Rattle.paper.proofs.Outcomes.{not-refused}
 use Rattle.paper.proofs.Injective.{migrate-one, lookup-one, box-one}

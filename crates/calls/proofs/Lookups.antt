@@ -37,12 +37,12 @@ use Rattle.demands.proofs.Fit.Record.{Fit}
 use Rattle.demands.proofs.Fit.Held.{in-held}
 use Rattle.demands.proofs.Fit.Rows.{has-residence, residence-lt, holds-residence}
 use Rattle.demands.proofs.Fit.ToMesh.{in-mesh, mesh-in}
-use Rattle.demands.proofs.Rows.Outcomes.{must-ok, then-ok, bind-ok}
+use Rattle.paper.proofs.Outcomes.{must-ok, then-ok, bind-ok}
 use Rattle.demands.proofs.Sound.Facts.{Sound, sound-inv}
 use Rattle.demands.proofs.Sound.Rows.{ent, row, parts-count, part-in, in-part, number-lt}
 use Rattle.demands.proofs.Theorems.Statements.{Accepts, mesh, OnlyIn}
 use Rattle.demands.proofs.Theorems.Sentences.{is-fit, residence-holds, owner-rule}
-use Rattle.calls.specs.Calls.{Call, Run, heldAfter, placesAfter, setIn, partsHeld, meshHeld, placesHeld}
+use Rattle.calls.specs.Calls.{Call, Run, heldAfter, placesAfter, setHeld, partsHeld, meshHeld, placesHeld}
 use Rattle.calls.proofs.Answered.{SoundSet, sound-answer}
 use Rattle.calls.proofs.Runs.{run-then}
 use Rattle.calls.proofs.Demand2.{entry-lands}
@@ -149,24 +149,24 @@ pub record FoundWhereHeld (ps : Parts) (parts k : ℕ) (r : LookupAnswer) : Type
   pub poorest : Poorest ps (partsIn residence) (ownerOf ps (partsIn residence))
 
 module _ (b : List ℕ) (parts rows : ℕ) (y : T (areBytes b)) (k : Checks b (check.Sound parts rows)) (cs : List Call) (run : Run b cs) where
-  now : SoundSet (heldAfter b cs) parts (rowTotal (setIn (heldAfter b cs)))
-  now = sound-answer (heldAfter b cs) parts (rowTotal (setIn (heldAfter b cs))) (run-accepted b parts rows y k cs run)
+  now : SoundSet (heldAfter b cs) parts (rowTotal (setHeld (heldAfter b cs)))
+  now = sound-answer (heldAfter b cs) parts (rowTotal (setHeld (heldAfter b cs))) (run-accepted b parts rows y k cs run)
 
   bytes : T (areBytes (heldAfter b cs))
   bytes = run-bytes b parts rows y k cs run
 
   fit : Fit (partsHeld (heldAfter b cs))
-  fit = is-fit (heldAfter b cs) (setIn (heldAfter b cs)) bytes (now .accepts)
+  fit = is-fit (heldAfter b cs) (setHeld (heldAfter b cs)) bytes (now .accepts)
 
   part-count : length (partsHeld (heldAfter b cs)) ≡ parts
-  part-count = parts-count (setIn (heldAfter b cs)) ∙ now .count
+  part-count = parts-count (setHeld (heldAfter b cs)) ∙ now .count
 
   still : (e : Entity) → In e (meshHeld b) → In e (meshHeld (heldAfter b cs))
   still e i = subst (λ (es : List Entity). In e es) (sym (mesh-unchanged b parts rows y k cs run)) i
 
   finds : (e : Entity) → In e (meshHeld b) → (r : LookupAnswer) → LooksUp (heldAfter b cs) (e .dim) (e .number) r
       → r ≡ lookup.Found (residenceIn (partsHeld (heldAfter b cs)) (name e)) (record { 0 = homeIn (partsHeld (heldAfter b cs)) (name e) .owner })
-  finds e i r kept = lookup-one r _ (kept .answer ∙ lookup-finds (heldAfter b cs) (setIn (heldAfter b cs)) bytes (now .accepts) e (still e i))
+  finds e i r kept = lookup-one r _ (kept .answer ∙ lookup-finds (heldAfter b cs) (setHeld (heldAfter b cs)) bytes (now .accepts) e (still e i))
 
   -- an object is found in one part, where the last call that moved it sent it or where it first was, and that part owns it
   pub object-found : (o : Entity) → In o (meshHeld b) → T (isObject (meshHeld b) (name o)) → (r : LookupAnswer) → LooksUp (heldAfter b cs) (o .dim) (o .number) r
@@ -200,7 +200,7 @@ module _ (b : List ℕ) (parts rows : ℕ) (y : T (areBytes b)) (k : Checks b (c
   pub none-found : (d n : ℕ) → n < 2 ^ 32 → ((e : Entity) → In e (meshHeld b) → e .dim ≡ d → e .number ≡ n → ⊥) → (r : LookupAnswer)
       → LooksUp (heldAfter b cs) d n r → r ≡ lookup.Refused (record { number = 21; major = 0; minor = 0 })
   none-found d n small free r kept =
-      lookup-one r _ (kept .answer ∙ lookup-misses (heldAfter b cs) (setIn (heldAfter b cs)) bytes (now .accepts) d n small
+      lookup-one r _ (kept .answer ∙ lookup-misses (heldAfter b cs) (setHeld (heldAfter b cs)) bytes (now .accepts) d n small
       (λ e i. free e (subst (λ (es : List Entity). In e es) (mesh-unchanged b parts rows y k cs run) i)))
 
 -- ---- right after a call that moved
@@ -214,7 +214,7 @@ destination-found b parts rows y k cs c run n rows′ objects is i h r kept =
     let before = heldAfter b cs in
     let after = heldAfter b (cs ++ (c ∷ [])) in
     let w = run-then b cs c run in
-    let v = entry-lands before parts (rowTotal (setIn before)) (run-bytes b parts rows y k cs (w .0)) (run-accepted b parts rows y k cs (w .0)) c (w .1) n rows′ objects is i h in
+    let v = entry-lands before parts (rowTotal (setHeld before)) (run-bytes b parts rows y k cs (w .0)) (run-accepted b parts rows y k cs (w .0)) c (w .1) n rows′ objects is i h in
     let o = v .0 in
     let same = mesh-unchanged b parts rows y k cs (w .0) in
     let found = object-found b parts rows y k (cs ++ (c ∷ [])) run o (subst (λ (es : List Entity). In o es) same (v .1))

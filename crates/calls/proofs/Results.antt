@@ -25,7 +25,7 @@ use Rattle.demands.proofs.Theorems.Statements.{Accepts, Iff}
 use Rattle.demands.proofs.Results as result
 use Rattle.demands.proofs.Results.Accepted.{Listed, Room}
 use Rattle.demands.proofs.Results.Nothing.{Whole}
-use Rattle.calls.specs.Calls.{Call, CallKept, held, Run, heldAfter, ask, setIn, partsHeld, meshHeld, placesHeld}
+use Rattle.calls.specs.Calls.{Call, CallKept, held, Run, heldAfter, ask, setHeld, partsHeld, meshHeld, placesHeld}
 use Rattle.calls.proofs.Answered.{outcomeBy, sound-answer, call-moved, call-moves}
 use Rattle.calls.proofs.Demand3.{run-accepted, run-bytes, mesh-unchanged}
 
@@ -47,18 +47,18 @@ woken-twice b y c kept n rows objects is d again same room words =
     (w .0 ∙ ap (λ (k : ℕ). migrate.Moved k rows 0) (s .length-is), w .1)
 
 module _ (b : List ℕ) (parts rows : ℕ) (y : T (areBytes b)) (k : Checks b (check.Sound parts rows)) where
-  a : Accepts b (setIn b)
+  a : Accepts b (setHeld b)
   a = sound-answer b parts rows k .accepts
 
   -- ---- exactly when a call is accepted: refusals 13 to 16 judge the list, 17 to 19 the buffers
 
   pub accepted-exactly-when : (c : Call) → CallKept b c
-      → Iff (Listed (length (setIn b)) (meshHeld b) (c .list) × Room (setIn b) (c .list) (length (c .out)) (length (c .work)))
+      → Iff (Listed (length (setHeld b)) (meshHeld b) (c .list) × Room (setHeld b) (c .list) (length (c .out)) (length (c .work)))
       ((n : ℕ) × (rows′ : ℕ) × (objects : ℕ) × (c .answer ≡ migrate.Moved n rows′ objects))
   accepted-exactly-when c kept = (
-    λ w. let m = migrated (setIn b) (c .list) in
-        (length (m .image), m .rows, m .objectsMoved, call-moves b c kept m (result.Accepted.move-accepts b (setIn b) (c .list) (length (c .out)) (length (c .work)) y a (w .0) (w .1)) .0),
-    λ w. let v = result.Accepted.move-accepted b (setIn b) (c .list) (length (c .out)) (length (c .work)) (outcomeBy b c (w .1) (w .2)) y a
+    λ w. let m = migrated (setHeld b) (c .list) in
+        (length (m .image), m .rows, m .objectsMoved, call-moves b c kept m (result.Accepted.move-accepts b (setHeld b) (c .list) (length (c .out)) (length (c .work)) y a (w .0) (w .1)) .0),
+    λ w. let v = result.Accepted.move-accepted b (setHeld b) (c .list) (length (c .out)) (length (c .work)) (outcomeBy b c (w .1) (w .2)) y a
         (call-moved b c kept (w .0) (w .1) (w .2) (w .3) .outcome) in (v .0, v .1),
   )
 
@@ -68,9 +68,9 @@ module _ (b : List ℕ) (parts rows : ℕ) (y : T (areBytes b)) (k : Checks b (c
       → (c .answer ≡ migrate.Moved (length b) rows 0) × (held b c ≡ b)
   empty-list c kept none room words =
       let total = sound-answer b parts rows k .total in
-      let w = call-moves b c kept (record { image = b; rows = rowTotal (setIn b); objectsMoved = 0 })
+      let w = call-moves b c kept (record { image = b; rows = rowTotal (setHeld b); objectsMoved = 0 })
       (ap (λ (l : List ℕ). migrateOf b l (length (c .out)) (length (c .work))) none
-      ∙ result.Empty.empty-list b (setIn b) (length (c .out)) (length (c .work)) y a room (subst⁻¹ (λ (i : ℕ). i ≤ length (c .work)) total words)) in
+      ∙ result.Empty.empty-list b (setHeld b) (length (c .out)) (length (c .work)) y a room (subst⁻¹ (λ (i : ℕ). i ≤ length (c .work)) total words)) in
       (w .0 ∙ ap (λ (i : ℕ). migrate.Moved (length b) i 0) total, w .1)
 
   -- ---- there and back: a list and then its reverse give the first image again, and move as many objects
@@ -80,46 +80,46 @@ module _ (b : List ℕ) (parts rows : ℕ) (y : T (areBytes b)) (k : Checks b (c
         → (d .answer ≡ migrate.Moved (length b) rows moved) × (held (held b c) d ≡ b)
     there-and-back d back turned room words =
         let total = sound-answer b parts rows k .total in
-        let w = call-moves (held b c) d back (record { image = b; rows = rowTotal (setIn b); objectsMoved = moved })
+        let w = call-moves (held b c) d back (record { image = b; rows = rowTotal (setHeld b); objectsMoved = moved })
         (ap (λ (l : List ℕ). migrateOf (held b c) l (length (d .out)) (length (d .work))) turned
-        ∙ result.Reverse.there-and-back b (setIn b) (c .list) (length (c .out)) (length (c .work)) (length (d .out)) (length (d .work)) (outcomeBy b c rows′ moved) y a
+        ∙ result.Reverse.there-and-back b (setHeld b) (c .list) (length (c .out)) (length (c .work)) (length (d .out)) (length (d .work)) (outcomeBy b c rows′ moved) y a
         (call-moved b c kept n rows′ moved is .outcome) room words) in
         (w .0 ∙ ap (λ (i : ℕ). migrate.Moved (length b) i moved) total, w .1)
 
     -- the reverse of a list of bytes is one
     pub reverse-is-bytes : T (areBytes (c .list)) → T (areBytes (reverseOf (placesHeld b) (c .list)))
     reverse-is-bytes yl =
-        result.Reverse.reverse-is-bytes b (setIn b) (c .list) (length (c .out)) (length (c .work)) (outcomeBy b c rows′ moved) y yl a (call-moved b c kept n rows′ moved is .outcome)
+        result.Reverse.reverse-is-bytes b (setHeld b) (c .list) (length (c .out)) (length (c .work)) (outcomeBy b c rows′ moved) y yl a (call-moved b c kept n rows′ moved is .outcome)
 
   -- ---- after any run
 
   module _ (cs : List Call) (r : Run b cs) where
-    a′ : Accepts (heldAfter b cs) (setIn (heldAfter b cs))
-    a′ = sound-answer (heldAfter b cs) parts (rowTotal (setIn (heldAfter b cs))) (run-accepted b parts rows y k cs r) .accepts
+    a′ : Accepts (heldAfter b cs) (setHeld (heldAfter b cs))
+    a′ = sound-answer (heldAfter b cs) parts (rowTotal (setHeld (heldAfter b cs))) (run-accepted b parts rows y k cs r) .accepts
 
     -- nothing lost, nothing twice: every entity of the first mesh is in some part, nothing else is in any, an object in one part only
-    pub nothing-lost : Whole (meshHeld b) (setIn (heldAfter b cs))
+    pub nothing-lost : Whole (meshHeld b) (setHeld (heldAfter b cs))
     nothing-lost =
-        subst (λ (es : List Entity). Whole es (setIn (heldAfter b cs))) (mesh-unchanged b parts rows y k cs r)
-        (result.Nothing.image-whole (heldAfter b cs) (setIn (heldAfter b cs)) (run-bytes b parts rows y k cs r) a′)
+        subst (λ (es : List Entity). Whole es (setHeld (heldAfter b cs))) (mesh-unchanged b parts rows y k cs r)
+        (result.Nothing.image-whole (heldAfter b cs) (setHeld (heldAfter b cs)) (run-bytes b parts rows y k cs r) a′)
 
     -- a sum over the objects of each part, or over what each part owns, counts each once: it is the sum over the first mesh
     module _ (w : Entity → ℕ) where
       pub objects-summed-once : overObjects w (partsHeld (heldAfter b cs)) ≡ sumOf w (objects (meshHeld b))
       objects-summed-once =
-          result.Once.objects-summed-once w (heldAfter b cs) (setIn (heldAfter b cs)) (run-bytes b parts rows y k cs r) a′
+          result.Once.objects-summed-once w (heldAfter b cs) (setHeld (heldAfter b cs)) (run-bytes b parts rows y k cs r) a′
           ∙ ap (λ (es : List Entity). sumOf w (objects es)) (mesh-unchanged b parts rows y k cs r)
 
       pub owned-summed-once : overOwned w (partsHeld (heldAfter b cs)) ≡ sumOf w (meshHeld b)
       owned-summed-once =
-          result.Once.owned-summed-once w (heldAfter b cs) (setIn (heldAfter b cs)) (run-bytes b parts rows y k cs r) a′
+          result.Once.owned-summed-once w (heldAfter b cs) (setHeld (heldAfter b cs)) (run-bytes b parts rows y k cs r) a′
           ∙ ap (sumOf w) (mesh-unchanged b parts rows y k cs r)
 
       -- so no call changes it
       pub same-sums : (overObjects w (partsHeld (heldAfter b cs)) ≡ overObjects w (partsHeld b)) × (overOwned w (partsHeld (heldAfter b cs)) ≡ overOwned w (partsHeld b))
       same-sums = (
-        objects-summed-once ∙ sym (result.Once.objects-summed-once w b (setIn b) y a),
-        owned-summed-once ∙ sym (result.Once.owned-summed-once w b (setIn b) y a),
+        objects-summed-once ∙ sym (result.Once.objects-summed-once w b (setHeld b) y a),
+        owned-summed-once ∙ sym (result.Once.owned-summed-once w b (setHeld b) y a),
       )
 
 -- ---- a part becomes empty and fills again, computed: the triangles of the paper's mesh B come together in part 1 and part again

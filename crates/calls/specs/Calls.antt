@@ -74,12 +74,12 @@ setOr (refused k p) = []
 setOr (accepted S) = S
 
 -- the rows of each part, slot by slot
-unfoldable pub setIn : List ℕ → Set
-setIn b = setOr (soundOf b)
+unfoldable pub setHeld : List ℕ → Set
+setHeld b = setOr (soundOf b)
 
 -- the entities of each part, the whole mesh, and the part of each object
 abbrev pub partsHeld : List ℕ → Parts
-partsHeld b = partsOf (setIn b)
+partsHeld b = partsOf (setHeld b)
 
 abbrev pub meshHeld : List ℕ → List Entity
 meshHeld b = meshOf (partsHeld b)

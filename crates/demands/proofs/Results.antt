@@ -15,3 +15,4 @@ pub mod EmptyPart
 pub mod Unique
 pub mod Programs
 pub mod WrongPrograms
+pub mod ErrorsMade

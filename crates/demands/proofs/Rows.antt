@@ -4,6 +4,5 @@ pub mod Bodies
 pub mod ReadBack
 pub mod Made
 pub mod Few
-pub mod Outcomes
 pub mod Faults
 pub mod Entries

@@ -1,3 +1,4 @@
+pub mod Passed
 pub mod History
 pub mod Reverse
 pub mod Programs

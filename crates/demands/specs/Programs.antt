@@ -14,7 +14,7 @@ use Rattle.paper.specs.declared.LookupAnswer.{LookupAnswer}
 use Rattle.paper.specs.declared.LookupAnswer.the-variants as lookup
 use Rattle.paper.specs.declared.BoxAnswer.{BoxAnswer}
 use Rattle.paper.specs.declared.BoxAnswer.the-variants as box
-use Rattle.paper.specs.Outcome.{Outcome, Place, refused, accepted, answered}
+use Rattle.paper.specs.Outcome.{Outcome, refusal, refused, accepted, answered}
 use Rattle.paper.specs.Sound.{Checked, checkOf}
 use Rattle.paper.specs.Move
 use Rattle.paper.specs.Move.{Migrated, Sizes, migrateOf, sizesOf, outAfter, workAfter}
@@ -55,9 +55,6 @@ abbrev pub CorrectBox : (List ℕ → ℕ → BoxAnswer) → Type 0
 CorrectBox f = (image : List ℕ) (part : ℕ) → Bounds image part (f image part)
 
 -- ---- the program that does what the paper says
-
-abbrev pub refusal : ℕ → Place → Refusal
-refusal k p = record { number = k; major = p .major; minor = p .minor }
 
 abbrev pub checkSays : Outcome Checked → CheckAnswer
 checkSays (refused k p) = check.Refused (refusal k p)

@@ -18,18 +18,20 @@ use Rattle.laws.proofs.Keyed.{ascends-uniq}
 use Rattle.laws.proofs.Ranges.{length-upTo, getD-upTo, upTo-in, in-upTo, asc-upTo}
 use Rattle.part_set.specs.Masks.{has, others, partsIn, lowestOf}
 use Rattle.part_set.proofs.MaskParts.{partsIn-ascends, in-partsIn}
-use Rattle.order.specs.Runs.{keyIn}
-use Rattle.order.proofs.Pairing.{merge-all-ascends}
+use Rattle.merge.specs.Runs.{keyIn}
+use Rattle.merge.proofs.Pairing.{merge-all-ascends}
 use Rattle.paper.specs.Image.{Set, noRow, rowAt}
 use Rattle.paper.specs.Sound.{nameOfRow, twinAgrees, copiesAgree}
 use Rattle.demands.proofs.Sound.Rows.{row, rows-ascend}
 use Rattle.demands.proofs.ForCode.Lowest.{Low, copies-by-lowest}
 use Rattle.index.specs.Index.{setIn, Indexed, Named}
-use Rattle.rules.specs.declared.Rule.the-variants.{Fields, Order, Twins, Copies}
-use Rattle.rules.specs.Judged.{judged, Passed}
+use Rattle.paper.specs.declared.Rule.the-variants.{Fields, Order, Copies}
+use Rattle.copies.specs.Copies.{twinsAgree, TwinsPassed}
+use Rattle.paper.specs.Sound.{judged}
+use Rattle.demands.specs.Passed.{Passed}
 use Rattle.entities.specs.declared.Listed.{Listed}
 use Rattle.entities.specs.LowestCopies.{isLow, lowRows, lowRuns, byName, Entities}
-use Rattle.rules.proofs.rows.Laws.{part-there}
+use Rattle.rows.proofs.Laws.{part-there}
 use Rattle.entities.proofs.Own.{own, own-in}
 use Rattle.entities.proofs.Members.{low-rows-in, low-listed}
 
@@ -140,8 +142,8 @@ module _ {b offs starts keys : List ℕ} {n : ℕ} (index : Indexed b offs start
       (lowest-low (setIn b) p s (omega (arith, low (lowestOf m) (lowest-in m p i), lowest-least m p i)))
 
   -- distinct names of the lowest copies, and twins that agree: all copies agree
-  pub ascending-copies : Passed Twins (setIn b) → T (ascending (map (keyIn keys) (byName (setIn b) starts keys n))) → Passed Copies (setIn b)
-  unfolding judged rowAt
+  pub ascending-copies : TwinsPassed (setIn b) → T (ascending (map (keyIn keys) (byName (setIn b) starts keys n))) → Passed Copies (setIn b)
+  unfolding judged twinsAgree rowAt
   ascending-copies twins t =
       copies-by-lowest (setIn b) own-row (ordered-names (setIn b) order) (λ p s h. twins p s h)
       (λ p s q u hs hu lp lq e.
@@ -200,7 +202,7 @@ module _ {b offs starts keys : List ℕ} {n : ℕ} (index : Indexed b offs start
 
   -- of what `entities` answers
   module _ {ord tmp ord′ tmp′ : List ℕ} {r : Listed} (e : Entities (setIn b) starts keys ord tmp ord′ tmp′ n r) where
-    pub distinct-copies : Passed Twins (setIn b) → r .distinct ≡ true → Passed Copies (setIn b)
+    pub distinct-copies : TwinsPassed (setIn b) → r .distinct ≡ true → Passed Copies (setIn b)
     distinct-copies twins d =
         ascending-copies twins
         (true-T (ascending (map (keyIn keys) (byName (setIn b) starts keys n))) (sym (e .distinct ∙ ap (λ (l : List ℕ). ascending (map (keyIn keys) l)) (e .rows)) ∙ d))

@@ -11,8 +11,8 @@ use lib.Seq.{take-take, take-all, take-length, take-append-seam, drop-append-sea
 use Rattle.laws.specs.Lists.{upTo}
 use Rattle.laws.proofs.Agree.{map-same}
 use Rattle.laws.proofs.Ranges.{upTo-in}
-use Rattle.order.specs.Runs.{part, runOf, runsOf}
-use Rattle.order.proofs.Lists.{part-front}
+use Rattle.merge.specs.Runs.{part, runOf, runsOf}
+use Rattle.merge.proofs.Lists.{part-front}
 
 -- the first n lists
 unfoldable pub front : (ℕ → List ℕ) → ℕ → List ℕ

@@ -8,17 +8,17 @@ use mathlib.Core.List.{List, _++_}
 use lib.ListN.{length, getD, take, set, length-set}
 use lib.Seq.{getD-set-same, getD-set-other}
 use Rattle.index.specs.Index.{setIn, maxRows}
-use Rattle.rules.proofs.rows.Laws.{part-room}
+use Rattle.rows.proofs.Laws.{part-room}
 use Rattle.entities.specs.LowestCopies.{lowRows, lowRuns}
-use Rattle.entities.specs.Gathering.{Readable, PartRoom, PartGathered, Gathered}
+use Rattle.entities.specs.Gathering.{FieldsReadable, PartRoom, PartGathered, Gathered}
 use Rattle.entities.proofs.Parts.{low-few}
 use Rattle.entities.proofs.Fronts.{front, front-none, front-more, front-length, runs-are}
 
-pub readable-all : {b offs starts : List ℕ} {n : ℕ} → Readable b offs starts n → Readable b offs starts (length (setIn b))
-readable-all {b} {offs} {starts} r = subst (λ (k : ℕ). Readable b offs starts k) (sym (r .indexed .count)) r
+pub readable-all : {b offs starts : List ℕ} {n : ℕ} → FieldsReadable b offs starts n → FieldsReadable b offs starts (length (setIn b))
+readable-all {b} {offs} {starts} r = subst (λ (k : ℕ). FieldsReadable b offs starts k) (sym (r .indexed .count)) r
 
 -- the lowest copies of p parts are there, k in all
-pub record Filled (b starts ord₀ st₀ ord st : List ℕ) (n p k : ℕ) : Type 0 where
+pub record PartsFilled (b starts ord₀ st₀ ord st : List ℕ) (n p k : ℕ) : Type 0 where
   pub within : p ≤ n
   pub begins : (i : ℕ) → i < p → getD st i 0 ≡ length (front (lowRows (setIn b) starts) i)
   pub count : k ≡ length (front (lowRows (setIn b) starts) p)
@@ -28,8 +28,8 @@ pub record Filled (b starts ord₀ st₀ ord st : List ℕ) (n p k : ℕ) : Type
   pub same-ord : length ord ≡ length ord₀
   pub same-st : length st ≡ length st₀
 
-module _ {b offs starts : List ℕ} {n : ℕ} (ready : Readable b offs starts n) (ord₀ st₀ : List ℕ) (room : maxRows + 1 ≤ length ord₀) (room-st : 65 ≤ length st₀) where
-  pub filled-none : Filled b starts ord₀ st₀ ord₀ st₀ n 0 0
+module _ {b offs starts : List ℕ} {n : ℕ} (ready : FieldsReadable b offs starts n) (ord₀ st₀ : List ℕ) (room : maxRows + 1 ≤ length ord₀) (room-st : 65 ≤ length st₀) where
+  pub filled-none : PartsFilled b starts ord₀ st₀ ord₀ st₀ n 0 0
   filled-none = record {
     within = omega arith;
     begins = λ i h. absurd (not-suc-le-zero h);
@@ -41,7 +41,7 @@ module _ {b offs starts : List ℕ} {n : ℕ} (ready : Readable b offs starts n)
     same-st = refl;
   }
 
-  module _ (ord st : List ℕ) (p k : ℕ) (now : Filled b starts ord₀ st₀ ord st n p k) where
+  module _ (ord st : List ℕ) (p k : ℕ) (now : PartsFilled b starts ord₀ st₀ ord st n p k) where
     pub filled-room : p < n → PartRoom (setIn b) p k ord
     filled-room h = record {
       few = omega (arith, ready .indexed .count);
@@ -57,7 +57,7 @@ module _ {b offs starts : List ℕ} {n : ℕ} (ready : Readable b offs starts n)
         (λ (m : i < p). getD-set-other st p i j 0 (λ q. omega (arith, m, q)) ∙ now .begins i m)
         (eq-or-lt-of-le (omega arith))
 
-    pub filled-more : (ord′ : List ℕ) (k′ : ℕ) → p < n → PartGathered (setIn b) starts p ord ord′ k k′ → Filled b starts ord₀ st₀ ord′ (set st p k) n (p + 1) k′
+    pub filled-more : (ord′ : List ℕ) (k′ : ℕ) → p < n → PartGathered (setIn b) starts p ord ord′ k k′ → PartsFilled b starts ord₀ st₀ ord′ (set st p k) n (p + 1) k′
     filled-more ord′ k′ h g =
         let f = lowRows (setIn b) starts in record {
           within = omega arith;
@@ -70,11 +70,11 @@ module _ {b offs starts : List ℕ} {n : ℕ} (ready : Readable b offs starts n)
           same-st = length-set st p k ∙ now .same-st;
         }
 
-  pub filled-done : (ord st : List ℕ) (p k : ℕ) → Filled b starts ord₀ st₀ ord st n p k → n ≤ p → Gathered (setIn b) starts ord₀ st₀ ord (set st n k) n k
+  pub filled-done : (ord st : List ℕ) (p k : ℕ) → PartsFilled b starts ord₀ st₀ ord st n p k → n ≤ p → Gathered (setIn b) starts ord₀ st₀ ord (set st n k) n k
   unfolding lowRuns
   filled-done ord st p k now h =
       let e : p ≡ n = omega (arith, now .within) in
-      let full : Filled b starts ord₀ st₀ ord st n n k = subst (λ (i : ℕ). Filled b starts ord₀ st₀ ord st n i k) e now in
+      let full : PartsFilled b starts ord₀ st₀ ord st n n k = subst (λ (i : ℕ). PartsFilled b starts ord₀ st₀ ord st n i k) e now in
       let f = lowRows (setIn b) starts in
       let l : n < length st = omega (arith, now .same-st, ready .indexed .few) in
       let at : (i : ℕ) → i ≤ n → getD (set st n k) i 0 ≡ length (front f i) = λ i j. begin ord st n k full k (full .count) l i (omega arith) in

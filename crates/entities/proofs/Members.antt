@@ -9,17 +9,17 @@ use lib.Dec.{T}
 use Rattle.laws.specs.Lists.{In, keep, flat, upTo, ascending}
 use Rattle.laws.proofs.Members.{map-in, in-map, keep-in, in-keep, flat-map-in, in-flat-map, getD-in}
 use Rattle.laws.proofs.Ranges.{upTo-in, in-upTo}
-use Rattle.order.specs.Runs.{keyIn, Runs, Merged}
-use Rattle.order.specs.Runs as R
-use Rattle.order.specs.Merge.{mergeAll}
-use Rattle.order.proofs.Outcome.{merged-named}
-use Rattle.order.proofs.Bounds.{flat-all}
-use Rattle.order.proofs.Pairing.{merge-all-in, in-merge-all}
+use Rattle.merge.specs.Runs.{keyIn, Runs, Merged}
+use Rattle.merge.specs.Runs as R
+use Rattle.merge.specs.Merge.{mergeAll}
+use Rattle.merge.proofs.Outcome.{merged-named}
+use Rattle.merge.proofs.Bounds.{flat-all}
+use Rattle.merge.proofs.Pairing.{merge-all-in, in-merge-all}
 use Rattle.paper.specs.Image.{Set}
 use Rattle.index.specs.Index.{setIn, maxRows, Named}
 use Rattle.entities.specs.declared.Listed.{Listed}
 use Rattle.entities.specs.LowestCopies.{isLow, lowRows, lowRuns, byName, LowRow, Entities}
-use Rattle.entities.specs.Gathering.{Readable, Gathered}
+use Rattle.entities.specs.Gathering.{FieldsReadable, Gathered}
 use Rattle.entities.proofs.Own.{row-listed}
 
 module _ (S : Set) (starts : List ℕ) where
@@ -70,7 +70,7 @@ module _ {S : Set} {starts keys ord tmp ord′ tmp′ : List ℕ} {n : ℕ} {r :
 
 -- ---- what is gathered, as runs to merge
 
-module _ {b offs starts : List ℕ} {n : ℕ} (ready : Readable b offs starts n) (keys : List ℕ) (named : Named b starts keys) (ord st ord′ st′ : List ℕ) (t : ℕ)
+module _ {b offs starts : List ℕ} {n : ℕ} (ready : FieldsReadable b offs starts n) (keys : List ℕ) (named : Named b starts keys) (ord st ord′ st′ : List ℕ) (t : ℕ)
     (room : maxRows + 1 ≤ length ord) (g : Gathered (setIn b) starts ord st ord′ st′ n t) where
   gathered-front : take t ord′ ≡ flat (lowRuns (setIn b) starts n)
   gathered-front = ap (λ (j : ℕ). take j ord′) (sym (g .total)) ∙ sym (flat-all st′ ord′ n (g .up) (g .first)) ∙ ap flat (g .runs)

@@ -8,27 +8,28 @@ use mathlib.Core.List.{List, [], map}
 use lib.ListN.{length, getD, take, length-map}
 use lib.Seq.{getD-take, length-take-le}
 use lib.Dec.{T, eqb, eqb→eq, T-not}
-use Rattle.laws.specs.Lists.{In, flat, ascending}
+use Rattle.laws.specs.Lists.{In, flat}
 use Rattle.laws.proofs.Tests.{decide, eq-eqb}
 use Rattle.laws.proofs.Members.{map-in, in-map, in-flat, flat-in, getD-in}
 use Rattle.laws.proofs.Agree.{getD-map}
 use Rattle.laws.proofs.Keyed.{asc-ext}
 use Rattle.part_set.specs.Masks.{has, lowestOf}
 use Rattle.part_set.proofs.MaskParts.{partsIn-in, in-others}
-use Rattle.order.specs.Runs.{keyIn}
+use Rattle.merge.specs.Runs.{keyIn}
 use Rattle.paper.specs.Image.{Set, rowAt}
 use Rattle.paper.specs.Mesh.{Entity, name, noEnt, entOf, partsOf, meshOf}
 use Rattle.paper.specs.Sound.{remoteSlot}
 use Rattle.demands.proofs.Entities.Names.{Uniq}
-use Rattle.demands.proofs.Entities.Sorted.{sort-in, in-sort, sort-ascends}
+use Rattle.demands.proofs.Entities.Sorted.{sort-in, in-sort, mesh-ascends}
 use Rattle.demands.proofs.Sound.Facts.{Copied}
 use Rattle.demands.proofs.Sound.Rows.{row, ent, part-in, in-part, twin, agree}
 use Rattle.index.specs.Index.{setIn, Indexed, Named}
-use Rattle.rules.specs.declared.Rule.the-variants.{Fields, Order, Copies}
-use Rattle.rules.specs.Judged.{judged, Passed}
+use Rattle.paper.specs.declared.Rule.the-variants.{Fields, Order, Copies}
+use Rattle.paper.specs.Sound.{judged}
+use Rattle.demands.specs.Passed.{Passed}
 use Rattle.entities.specs.declared.Listed.{Listed}
 use Rattle.entities.specs.LowestCopies.{isLow, byName, LowRow, Entities}
-use Rattle.rules.proofs.rows.Laws.{part-there}
+use Rattle.rows.proofs.Laws.{part-there}
 use Rattle.entities.proofs.Own.{own-in}
 use Rattle.entities.proofs.Members.{listed-low, low-listed, entry-low}
 use Rattle.entities.proofs.Distinct.{lowest-in, lowest-low, low-lowest, copies-ascending}
@@ -71,10 +72,6 @@ module _ (S : Set) (f : Copied S) where
   mesh-one : (e g : Entity) → In e (meshOf (partsOf S)) → In g (meshOf (partsOf S)) → name e ≡ name g → e ≡ g
   unfolding meshOf
   mesh-one e g i j n = one-entity e g (sort-in (flat (partsOf S)) e i) (sort-in (flat (partsOf S)) g j) n
-
-  mesh-ascends : T (ascending (map name (meshOf (partsOf S))))
-  unfolding meshOf
-  mesh-ascends = sort-ascends (flat (partsOf S))
 
   -- every row has a lowest copy, which is the same entity
   lowest-copy : (p s : ℕ) → s < length (getD S p []) → (q : ℕ) × (t : ℕ) × (t < length (getD S q [])) × T (isLow S q t) × (ent S q t ≡ ent S p s)
@@ -138,7 +135,7 @@ module _ {b offs starts keys : List ℕ} {n : ℕ} (index : Indexed b offs start
   names-mesh =
       let S = setIn b in
       asc-ext (map (keyIn keys) (byName S starts keys n)) (map name (meshOf (partsOf S)))
-      (copies-ascending index named (fields-passed S f) (order-passed S f) (copies-passed S f)) (mesh-ascends S f) keys-to keys-from
+      (copies-ascending index named (fields-passed S f) (order-passed S f) (copies-passed S f)) (mesh-ascends (partsOf S)) keys-to keys-from
 
   -- of what `entities` answers
   module _ {ord tmp ord′ tmp′ : List ℕ} {r : Listed} (e : Entities (setIn b) starts keys ord tmp ord′ tmp′ n r) where

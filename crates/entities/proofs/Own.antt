@@ -19,11 +19,12 @@ use Rattle.paper.specs.Image.{Row, Set, noRow, rowAt}
 use Rattle.paper.specs.Sound.{valueFits, bodyFits, fieldsFit}
 use Rattle.index.specs.Index.{setIn, maxRows}
 use Rattle.index.proofs.RowFields.{row-mask}
-use Rattle.rules.specs.declared.Rule.the-variants.{Fields}
-use Rattle.rules.specs.Judged.{judged, Passed}
-use Rattle.rules.proofs.rows.Laws.{row-there, offset-there}
+use Rattle.paper.specs.declared.Rule.the-variants.{Fields}
+use Rattle.paper.specs.Sound.{judged}
+use Rattle.demands.specs.Passed.{Passed}
+use Rattle.rows.proofs.Laws.{row-there, offset-there}
 use Rattle.entities.specs.LowestCopies.{isLow}
-use Rattle.entities.specs.Gathering.{Readable}
+use Rattle.entities.specs.Gathering.{FieldsReadable}
 
 own-bit : (n p : ℕ) (r : Row) → T (fieldsFit n p r) → T (has (r .mask) p)
 unfolding fieldsFit
@@ -43,7 +44,7 @@ module _ (S : Set) (fields : Passed Fields S) (p s : ℕ) (h : s < length (getD 
   own-in few = let l = part-lt S p (getD (getD S p []) s noRow) (getD-in (getD S p []) s noRow h) in in-partsIn (rowAt S p s .mask) p (omega arith) own
 
 -- what is read of row s of part p
-module _ {b offs starts : List ℕ} {n : ℕ} (ready : Readable b offs starts n) (p s : ℕ) (h : s < length (getD (setIn b) p [])) where
+module _ {b offs starts : List ℕ} {n : ℕ} (ready : FieldsReadable b offs starts n) (p s : ℕ) (h : s < length (getD (setIn b) p [])) where
   pub mask-at : u64At b (getD offs (getD starts p 0 + s) 0 + 8) ≡ rowAt (setIn b) p s .mask
   mask-at = sym (row-mask b (getD offs (getD starts p 0 + s) 0)) ∙ ap (λ (r : Row). r .mask) (sym (ready .indexed .row p s h))
 

@@ -10,6 +10,7 @@ use lib.Seq.{take-suc-set, take-set-le, length-take-le}
 use Rattle.laws.specs.Lists.{keep, from, upTo}
 use Rattle.laws.proofs.Agree.{length-keep}
 use Rattle.laws.proofs.Ranges.{length-upTo}
+use Rattle.laws.proofs.Tests.{one-at-most}
 use Rattle.paper.specs.Image.{Set}
 use Rattle.entities.specs.LowestCopies.{isLow, lowRows}
 use Rattle.entities.specs.Gathering.{PartGathered}
@@ -29,13 +30,9 @@ low-few S starts p =
       length-upTo (length (getD S p [])),
     )
 
-cond-le : (b : Bool) → cond b 1 0 ≤ 1
-cond-le true = omega arith
-cond-le false = omega arith
-
 -- the test's answer is 1 at most
 pub low-one : (S : Set) (p s d : ℕ) → d ≡ cond (isLow S p s) 1 0 → d ≤ 1
-low-one S p s d e = omega (arith, cond-le (isLow S p s), e)
+low-one S p s d e = omega (arith, one-at-most (isLow S p s), e)
 
 -- slot s is looked at next; what stands before k and what is to come are the whole
 pub record Going (S : Set) (starts : List ℕ) (p : ℕ) (ord₀ ord : List ℕ) (k₀ s k : ℕ) : Type 0 where
@@ -74,7 +71,7 @@ module _ (S : Set) (starts : List ℕ) (p : ℕ) (ord₀ : List ℕ) (k₀ : ℕ
       → d ≡ cond (isLow S p s) 1 0 → Going S starts p ord₀ (set ord k g) k₀ (s + 1) (k + d)
   going-more ord s k g d now h l is e = record {
     slot = omega arith;
-    few = omega (arith, cond-le (isLow S p s), now .few);
+    few = omega (arith, one-at-most (isLow S p s), now .few);
     rest = ap (λ (j : ℕ). take (k + j) (set ord k g) ++ lowFrom S starts p (s + 1)) e
         ∙ ap (λ (xs : List ℕ). xs ++ lowFrom S starts p (s + 1)) (take-step (isLow S p s) ord k g l)
         ∙ append-assoc (take k ord) (cond (isLow S p s) (g ∷ []) []) (lowFrom S starts p (s + 1))

@@ -5,19 +5,19 @@ use Prim.Native.Nat.{ℕ, _+_, _≤_, _<_}
 use lib.ListN.{length, getD, take}
 use Rattle.paper.specs.Image.{Set}
 use Rattle.index.specs.Index.{setIn, maxRows, Indexed, Named}
-use Rattle.rules.specs.declared.Rule.the-variants.{Fields}
-use Rattle.rules.specs.Judged.{Passed}
-use Rattle.order.specs.Runs.{runsOf}
+use Rattle.paper.specs.declared.Rule.the-variants.{Fields}
+use Rattle.demands.specs.Passed.{Passed}
+use Rattle.merge.specs.Runs.{runsOf}
 use Rattle.entities.specs.LowestCopies.{lowRows, lowRuns}
 
 -- an image with its index, whose rows have passed rule 7
-pub record Readable (b offs starts : List ℕ) (n : ℕ) : Type 0 where
+pub record FieldsReadable (b offs starts : List ℕ) (n : ℕ) : Type 0 where
   pub indexed : Indexed b offs starts n
   pub fields : Passed Fields (setIn b)
 
 -- and the names of its rows, with room for the list
 pub record Listable (b offs starts keys ord tmp : List ℕ) (n : ℕ) : Type 0 where
-  pub readable : Readable b offs starts n
+  pub readable : FieldsReadable b offs starts n
   pub named : Named b starts keys
   pub room-ord : maxRows + 1 ≤ length ord
   pub room-tmp : maxRows + 1 ≤ length tmp

@@ -9,8 +9,8 @@ use lib.Dec.{T, eqb}
 use Rattle.laws.specs.Lists.{keep, upTo, ascending}
 use Rattle.part_set.specs.Masks.{lowestOf}
 use Rattle.paper.specs.Image.{Set, rowAt}
-use Rattle.order.specs.Runs.{keyIn}
-use Rattle.order.specs.Merge.{mergeAll}
+use Rattle.merge.specs.Runs.{keyIn}
+use Rattle.merge.specs.Merge.{mergeAll}
 use Rattle.entities.specs.declared.Listed.{Listed}
 
 -- row s of part p stands in the lowest part of its residence set

@@ -8,7 +8,7 @@ ghost use mathlib.Core.List.{[]};
 ghost use lib.ListN.{length, getD};
 ghost use Rattle.index.specs.Index.{setIn, maxRows};
 ghost use Rattle.entities.specs.LowestCopies.{isLow, Entities};
-ghost use Rattle.entities.specs.Gathering.{Readable, Listable, PartRoom, PartGathered, Gathered};
+ghost use Rattle.entities.specs.Gathering.{FieldsReadable, Listable, PartRoom, PartGathered, Gathered};
 
 // How many rows are listed, and whether each name is there once.
 pub struct Listed {
@@ -18,11 +18,11 @@ pub struct Listed {
 
 // 1 where the row stands in the lowest part of its residence set, and 0 where not.
 fn low(image: &[u8], offs: &[u32], starts: &[u32], part: Part, slot: Slot) -> usize
-    requires { ⌜ Readable (now image) (now offs) (now starts) (length (setIn (now image))) ⌝ }
+    requires { ⌜ FieldsReadable (now image) (now offs) (now starts) (length (setIn (now image))) ⌝ }
     requires { ⌜ slot .0 < length (getD (setIn (now image)) (part .0) []) ⌝ }
     ensures { λ r. ⌜ r ≡ cond (isLow (setIn (now (image .entry))) (part .0) (slot .0)) 1 0 ⌝ }
 {
-    let at = rules::rows::offset_of(offs, starts, part, slot);
+    let at = rows::offset_of(offs, starts, part, slot);
     let mask = field::long_at(image, at + 8);
     if part_set::lowest(mask) == part.0 {
         return 1;
@@ -40,15 +40,15 @@ fn gather_part(
     part: Part,
     k: usize,
 ) -> usize
-    requires { ⌜ Readable (now image) (now offs) (now starts) (length (setIn (now image))) ⌝ }
+    requires { ⌜ FieldsReadable (now image) (now offs) (now starts) (length (setIn (now image))) ⌝ }
     requires { ⌜ PartRoom (setIn (now image)) (part .0) k (now ord) ⌝ }
     ensures { λ r. ⌜ PartGathered (setIn (now (image .entry))) (now (starts .entry)) (part .0) (now (ord .entry)) (now (ord .exit)) k r ⌝ }
 {
-    let rows = rules::rows::rows_in(starts, part);
+    let rows = rows::rows_in(starts, part);
     let mut s = 0;
     let mut to = k;
     while s < rows {
-        ord[to] = rules::rows::row_of(starts, part, Slot(s)) as u32;
+        ord[to] = rows::row_of(starts, part, Slot(s)) as u32;
         to += low(image, offs, starts, part, Slot(s));
         s += 1;
     }
@@ -64,7 +64,7 @@ fn gather(
     ord: &mut [u32],
     st: &mut [u32],
 ) -> usize
-    requires { ⌜ Readable (now image) (now offs) (now starts) n ⌝ }
+    requires { ⌜ FieldsReadable (now image) (now offs) (now starts) n ⌝ }
     requires { ⌜ (maxRows + 1 ≤ length (now ord)) × (65 ≤ length (now st)) ⌝ }
     ensures { λ t. ⌜ Gathered (setIn (now (image .entry))) (now (starts .entry)) (now (ord .entry)) (now (st .entry)) (now (ord .exit)) (now (st .exit)) n t ⌝ }
 {
@@ -92,10 +92,10 @@ pub fn entities(
     requires { ⌜ Listable (now image) (now offs) (now starts) (now keys) (now ord) (now tmp) n ⌝ }
     ensures { λ r. ⌜ Entities (setIn (now (image .entry))) (now (starts .entry)) (now (keys .entry)) (now (ord .entry)) (now (tmp .entry)) (now (ord .exit)) (now (tmp .exit)) n r ⌝ }
 {
-    let mut st = [0u32; 65];
+    let mut st = [0u32; paper::PART_ENTRIES];
     let count = gather(image, offs, starts, n, ord, &mut st);
-    order::merge_runs(keys, ord, tmp, &mut st, n as usize);
-    let distinct = order::ascends(keys, ord, count);
+    merge::merge_runs(keys, ord, tmp, &mut st, n as usize);
+    let distinct = merge::ascends(keys, ord, count);
     Listed {
         count: count,
         distinct: distinct,

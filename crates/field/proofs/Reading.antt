@@ -36,6 +36,10 @@ bytes-take zero b y = tt
 bytes-take (suc i) [] y = y
 bytes-take (suc i) (x ∷ b) y = both (ltb x 256) (areBytes (take i b)) (and-l (ltb x 256) (areBytes b) y) (bytes-take i b (and-r (ltb x 256) (areBytes b) y))
 
+pub bytes-all : (b : List ℕ) → ((i : ℕ) → getD b i 0 < 256) → T (areBytes b)
+bytes-all [] h = tt
+bytes-all (x ∷ b) h = both (ltb x 256) (areBytes b) (lt→ltb x 256 (h 0)) (bytes-all b (λ i. h (suc i)))
+
 -- ---- four bytes and eight
 
 -- four bytes are the bytes of their number

@@ -1,4 +1,4 @@
--- Runs of stores: one after another, and a loop that stores a list one by one.
+-- A run of stores: a loop that stores a list one by one, and what it leaves.
 -- Assumes nothing.
 use Prim.Native.Nat.{ℕ, zero, suc, _+_, _*_, _/_, _%_, _^_, _≤_, _<_}
 use native.Mathlib.Nat.{add-zero, suc-add, zero-add, div-one}
@@ -9,17 +9,6 @@ use lib.ListN.{length, set, getD, take, drop, length-set, length-append, length-
 use lib.Seq.{sets, sets-eq, drop-cons, getD-take, getD-drop, length-take-le, take-at, drop-at}
 use lib.Pow.{shr-shr, mod-mod-pow, field}
 use Rattle.field.specs.Bytes.{bytesOf}
-
--- ---- two runs in a row
-
-pub sets-append : (l : List ℕ) (i : ℕ) (xs ys : List ℕ) → sets l i (xs ++ ys) ≡ sets (sets l i xs) (i + length xs) ys
-sets-append l i [] ys = rw add-zero
-sets-append l i (x ∷ xs) ys =
-    let e : i + suc (length xs) ≡ suc i + length xs = omega arith in
-    rw e (sets-append (set l i x) (suc i) xs ys)
-
-pub sets-then : (l m n : List ℕ) (i j : ℕ) (xs ys : List ℕ) → m ≡ sets l i xs → n ≡ sets m j ys → j ≡ i + length xs → n ≡ sets l i (xs ++ ys)
-sets-then l m n i j xs ys e f h = f ∙ rw (e, h, sets-append)
 
 -- ---- one by one: what is left to store gives what was to be stored
 

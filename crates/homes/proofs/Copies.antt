@@ -6,7 +6,7 @@ use mathlib.Core.Bool.{Bool, cond}
 use mathlib.Core.List.{List, [], _∷_, map}
 use lib.ListN.{length, getD, drop, length-map}
 use lib.Dec.{T, eqb}
-use Rattle.laws.specs.Lists.{In, flat, indexOf, ascending}
+use Rattle.laws.specs.Lists.{In, indexOf}
 use Rattle.laws.proofs.Tests.{T-true, eq-eqb, ne-eqb}
 use Rattle.laws.proofs.Members.{getD-in, map-in}
 use Rattle.laws.proofs.Agree.{getD-map}
@@ -20,19 +20,15 @@ use Rattle.paper.specs.Image.{Row, Set, remotes, rowLength, rowAt}
 use Rattle.paper.specs.Mesh.{Entity, name, noEnt, entOf, partsOf, meshOf, holds, slotIn}
 use Rattle.paper.specs.Sound.{nameOfRow, remoteSlot}
 use Rattle.demands.proofs.Entities.Names.{in-holds}
-use Rattle.demands.proofs.Entities.Sorted.{sort-ascends}
+use Rattle.demands.proofs.Entities.Sorted.{mesh-ascends}
 use Rattle.demands.proofs.Sound.Facts.{Sound}
 use Rattle.demands.proofs.Sound.Rows.{row, ent, part-in, in-part, row-fields, row-wide, slot-is, held-has, has-in}
 use Rattle.demands.proofs.ForCode.Marks.{copySlot, copy-slot}
 use Rattle.index.specs.Index.{rowFrom, setIn, maxRows, Indexed}
 use Rattle.index.proofs.RowFields.{row-mask, row-slot, row-length}
-use Rattle.rules.proofs.rows.Laws.{part-room, part-there, offset-there}
+use Rattle.rows.proofs.Laws.{part-room, part-there, offset-there}
 use Rattle.entities.proofs.Own.{has-some}
 use Rattle.homes.specs.CopyRows.{copyRows, otherRows, CopiesThere, EntityThere}
-
-mesh-ascends : (S : Set) → T (ascending (map name (meshOf (partsOf S))))
-unfolding meshOf
-mesh-ascends S = sort-ascends (flat (partsOf S))
 
 -- ---- the copies of row s of part p
 
@@ -61,7 +57,7 @@ module _ (S : Set) (f : Sound S) (p s : ℕ) (h : s < length (getD S p [])) wher
   entity-index i l e =
       let es = meshOf (partsOf S) in
       ap (λ (k : ℕ). indexOf k (map name es)) (ap name e ∙ sym (getD-map name es i noEnt 0 l))
-      ∙ index-getD (map name es) (mesh-ascends S) i (omega (arith, length-map es name))
+      ∙ index-getD (map name es) (mesh-ascends (partsOf S)) i (omega (arith, length-map es name))
 
 -- ---- the slots that a row names
 

@@ -25,7 +25,7 @@ use Rattle.demands.proofs.Sound.Rows.{row, ent}
 use Rattle.demands.proofs.ForCode.Spread.{mask-lt}
 use Rattle.demands.proofs.ForCode.Marks.{marked, copySlot, mask-by-copies, row-index}
 use Rattle.index.specs.Index.{setIn, maxRows}
-use Rattle.rules.proofs.rows.Laws.{part-there, row-there}
+use Rattle.rows.proofs.Laws.{part-there, row-there}
 use Rattle.entities.proofs.Distinct.{one-part}
 use Rattle.plan.specs.Plan.{mesh, placing, newSet, LowestRow, Masked, Numbered}
 use Rattle.homes.specs.Joining.{Joinable}

@@ -1,12 +1,12 @@
 -- The words of the rows have the marks by which the residence sets of a placement are worked out. Assumes nothing.
 use Prim.Native.Nat.{ℕ, zero, suc, _+_, _<_}
 use mathlib.Core.Path.{_≡_, refl, sym, ap, _∙_, subst}
-use mathlib.Core.Bool.{Bool, true, false, not, cond, _&&_}
+use mathlib.Core.Bool.{not, _&&_}
 use mathlib.Core.List.{List, [], _∷_, map}
 use lib.ListN.{length, getD}
 use lib.Dec.{T, eqb, eqb→eq, ltb, ltb→lt}
 use Rattle.laws.specs.Lists.{In, flat, upTo, member}
-use Rattle.laws.proofs.Tests.{iff-eq, eq-eqb, split2, join2, split3, join3}
+use Rattle.laws.proofs.Tests.{iff-eq, eq-eqb, split2, join2, split3, join3, bit-open}
 use Rattle.laws.proofs.Members.{every-in, in-map, some-in}
 use Rattle.laws.proofs.Agree.{map-same, some-same}
 use Rattle.laws.proofs.Ranges.{upTo-in}
@@ -23,8 +23,8 @@ use Rattle.demands.proofs.ForCode.Covered.{covered}
 use Rattle.demands.proofs.ForCode.Marks.{marks, marked, row-is-object}
 use Rattle.demands.proofs.ForCode.SlotClosures as by-slots
 use Rattle.index.specs.Index.{setIn}
-use Rattle.rules.specs.Tables.{slotCovered, Covers}
-use Rattle.rules.proofs.residence.Names.{covered-slot}
+use Rattle.residence.specs.Tables.{slotCovered, Covers}
+use Rattle.residence.proofs.Names.{covered-slot}
 use Rattle.marks.specs.Closures.{slotClosure, closureMarks, objectMarks, partMarks}
 use Rattle.plan.specs.Plan.{mesh, placing, Destined}
 
@@ -37,10 +37,6 @@ one-closure zero rows s = refl
 one-closure (suc d) rows s =
     let fs = slotsOf (suc d) (getD rows s noRow .body) in
     ap (λ (xss : List (List ℕ)). s ∷ flat xss) (map-same (slotClosure d rows) (by-slots.slotClosure d rows) fs (λ t i. one-closure d rows t))
-
-bit-open : (x : Bool) → eqb (cond x 1 0) 0 ≡ not x
-bit-open true = refl
-bit-open false = refl
 
 -- ---- the marks of an image whose objects have destinations
 

@@ -6,7 +6,7 @@ use lib.ListN.{length, getD}
 use Rattle.part_set.specs.Masks.{has}
 use Rattle.paper.specs.Placement.{WellPlaced}
 use Rattle.index.specs.Index.{setIn, maxRows}
-use Rattle.rules.specs.Tables.{Covers}
+use Rattle.residence.specs.Tables.{Covers}
 use Rattle.marks.specs.Closures.{partMarks}
 use Rattle.plan.specs.Plan.{mesh, placing, Sourced, Destined}
 

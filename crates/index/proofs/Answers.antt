@@ -4,8 +4,8 @@ use native.Mathlib.Nat.{not-suc-le-zero, le-of-suc-le-suc, eq-or-lt-of-le, lt-tr
 use native.Mathlib.Decide.{decLe}
 use native.Mathlib.Numerals.{add-one}
 use native.Mathlib.Omega.{arith}
-use mathlib.Core.Path.{_≡_, refl, sym, ap, _∙_}
-use mathlib.Core.Bool.{Bool, true, false}
+use mathlib.Core.Path.{_≡_, sym, ap, _∙_}
+use mathlib.Core.Bool.{false}
 use mathlib.Core.Logic.{_⊎_, ⊎-elim}
 use mathlib.Core.List.{List, [], map}
 use mathlib.Core.Option.{none}
@@ -13,6 +13,7 @@ use lib.ListN.{length, getD, drop}
 use lib.Dec.{T, ltb→lt}
 use Rattle.laws.specs.Lists.{member}
 use Rattle.laws.proofs.Members.{member-in, map-in, in-getD}
+use Rattle.laws.proofs.Tests.{no-T}
 use Rattle.field.specs.Bytes.{u8At}
 use Rattle.paper.specs.Image.{Row, noRow, walkParts, rowAt}
 use Rattle.paper.specs.Sound.{nameOfRow, ordered}
@@ -53,10 +54,6 @@ names-ascend rows o i zero h g = absurd (not-suc-le-zero h)
 names-ascend rows o i (suc j) h g =
     let next : nameOfRow (getD rows j noRow) < nameOfRow (getD rows (suc j) noRow) = ltb→lt _ _ (o (suc j) g) in
     ⊎-elim (λ (e : i ≡ j). rw e next) (λ (l : i < j). lt-trans (names-ascend rows o i j l (omega arith)) next) (eq-or-lt-of-le (le-of-suc-le-suc h))
-
-no-T : (t : Bool) → (T t → ⊥) → t ≡ false
-no-T true h = absurd (h tt)
-no-T false h = refl
 
 -- ---- the parts of an index
 

@@ -15,10 +15,11 @@ use borrow.Author.Tests.{le-leb, lt-leb}
 use Rattle.laws.specs.Lists.{In, flat, need}
 use Rattle.laws.proofs.Members.{in-either}
 use Rattle.field.specs.Bytes.{u32At, u64At}
+use Rattle.field.proofs.Reading.{u32-drop, u64-drop}
 use Rattle.paper.specs.Image.{Row, Set, rowLength, consRow, consPart, walked, walkRows, walkParts}
 use Rattle.index.specs.Index.{rowFrom}
 use Rattle.index.specs.Places.{lengthAt, rowsEnd, rowOffs, partEnd, partsEnd, partOffs}
-use Rattle.index.proofs.RowFields.{u32-drop, u64-drop, row-long-enough}
+use Rattle.index.proofs.RowFields.{row-long-enough}
 
 -- ---- ends
 

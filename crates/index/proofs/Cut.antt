@@ -10,8 +10,8 @@ use lib.Dec.{leb, eqb}
 use Rattle.field.specs.Bytes.{u8At, u16At}
 use Rattle.paper.specs.Outcome.{Outcome, refused, nowhere, _>>=_, _>>_, must, get}
 use Rattle.paper.specs.Image.{Set, walkParts}
-use Rattle.paper.specs.Sound.{maxImage, soundOf}
-use Rattle.index.specs.Head.{marked, partsCounted, headNumber, rulesOf}
+use Rattle.paper.specs.Sound.{maxImage, marked, partsCounted, decode, rulesOf, soundOf}
+use Rattle.index.specs.Head.{headNumber}
 
 -- five tests, and what follows them
 module _ (rest : Outcome Set) where
@@ -39,17 +39,19 @@ module _ (rest : Outcome Set) where
   goes-on true true true true false e = absurd (omega arith)
   goes-on true true true true true e = refl
 
--- the check after the head
-abbrev afterHead : List ℕ → Outcome Set
-afterHead b = get 6 (walkParts (u8At b 5) (drop 8 b)) >>= rulesOf
+-- the walk after the head
+abbrev walked : List ℕ → Outcome Set
+walked b = get 6 (walkParts (u8At b 5) (drop 8 b))
 
 pub head-stops : (b : List ℕ) (k : ℕ) → headNumber b ≡ suc k → soundOf b ≡ refused (suc k) nowhere
-unfolding soundOf headNumber marked partsCounted rulesOf
-head-stops b k e = stops (afterHead b) (leb (length b) maxImage) (leb 8 (length b)) (marked b) (eqb (u16At b 3) 1) (partsCounted b) k e
+unfolding soundOf decode headNumber _>>=_
+head-stops b k e =
+    ap (λ (o : Outcome Set). o >>= rulesOf) (stops (walked b) (leb (length b) maxImage) (leb 8 (length b)) (marked b) (eqb (u16At b 3) 1) (partsCounted b) k e)
 
-head-goes-on : (b : List ℕ) → headNumber b ≡ 0 → soundOf b ≡ afterHead b
-unfolding soundOf headNumber marked partsCounted rulesOf
-head-goes-on b e = goes-on (afterHead b) (leb (length b) maxImage) (leb 8 (length b)) (marked b) (eqb (u16At b 3) 1) (partsCounted b) e
+head-goes-on : (b : List ℕ) → headNumber b ≡ 0 → soundOf b ≡ (walked b >>= rulesOf)
+unfolding soundOf decode headNumber
+head-goes-on b e =
+    ap (λ (o : Outcome Set). o >>= rulesOf) (goes-on (walked b) (leb (length b) maxImage) (leb 8 (length b)) (marked b) (eqb (u16At b 3) 1) (partsCounted b) e)
 
 pub walk-stops : (b : List ℕ) → headNumber b ≡ 0 → walkParts (u8At b 5) (drop 8 b) ≡ none → soundOf b ≡ refused 6 nowhere
 unfolding get _>>=_

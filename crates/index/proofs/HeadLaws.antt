@@ -9,16 +9,11 @@ use lib.ListN.{length, getD}
 use lib.Dec.{leb, ltb, eqb, leb→le, ltb→lt}
 use borrow.Author.Tests.{le-leb, lt-leb, eq-eqb, ne-eqb, leb-true, eqb-true}
 use Rattle.laws.specs.Lists.{same}
-use Rattle.laws.proofs.Tests.{split3, true-T}
+use Rattle.laws.proofs.Tests.{split3, true-T, and-three}
 use Rattle.field.specs.Bytes.{u8At, u16At}
 use Rattle.paper.specs.Sound.{maxImage}
-use Rattle.index.specs.Head.{marked, partsCounted, headNumber}
-
-three : (a b c : Bool) → (a && b && c) ≡ (a && (b && (c && true)))
-three true true true = refl
-three true true false = refl
-three true false c = refl
-three false b c = refl
+use Rattle.paper.specs.Sound.{marked, partsCounted}
+use Rattle.index.specs.Head.{headNumber}
 
 -- the mark is three bytes
 pub mark-bytes : (b : List ℕ) → 8 ≤ length b → (eqb (getD b 0 0) 68 && eqb (getD b 1 0) 77 && eqb (getD b 2 0) 80) ≡ marked b
@@ -26,7 +21,7 @@ unfolding marked same
 mark-bytes [] h = absurd (not-suc-le-zero h)
 mark-bytes (x ∷ []) h = absurd (not-suc-le-zero (le-of-suc-le-suc h))
 mark-bytes (x ∷ y ∷ []) h = absurd (not-suc-le-zero (le-of-suc-le-suc (le-of-suc-le-suc h)))
-mark-bytes (x ∷ y ∷ z ∷ b) h = three (eqb x 68) (eqb y 77) (eqb z 80)
+mark-bytes (x ∷ y ∷ z ∷ b) h = and-three (eqb x 68) (eqb y 77) (eqb z 80)
 
 -- ---- each answer
 

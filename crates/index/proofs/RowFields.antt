@@ -1,30 +1,18 @@
 -- Each field of the row whose first byte stands at o, as a number read from the image; and how long a row can be. Assumes nothing.
 use Prim.Native.Nat.{ℕ, zero, suc, _+_, _-_, _*_, _^_, _<_, _≤_}
-use native.Mathlib.Nat.{add-zero, add-assoc, not-suc-le-zero, le-refl}
+use native.Mathlib.Nat.{add-zero, not-suc-le-zero}
 use native.Mathlib.Omega.{arith}
-use mathlib.Core.Path.{_≡_, refl, sym, ap, ap₂, _∙_}
-use mathlib.Core.Bool.{Bool, true, false, cond}
-use mathlib.Core.List.{List, [], _∷_}
-use lib.ListN.{length, getD, take, drop}
+use mathlib.Core.Path.{_≡_, refl, ap, ap₂, _∙_}
+use mathlib.Core.List.{List}
+use lib.ListN.{getD, take, drop}
 use lib.Seq.{getD-drop, getD-take, drop-drop}
-use Rattle.laws.specs.Lists.{keep, upTo}
 use Rattle.field.specs.Bytes.{u8At, u16At, u32At, u64At, words, longs}
-use Rattle.part_set.specs.Masks.{has, partsIn, count}
+use Rattle.field.proofs.Reading.{u32-drop, u64-drop}
+use Rattle.part_set.proofs.Rank.{count-le}
 use Rattle.paper.specs.Image.{remotes, rowLength, rowIn}
 use Rattle.index.specs.Index.{rowFrom}
-use Rattle.laws.proofs.Ranges.{length-upTo}
 
--- ---- a number in what is left of the bytes, and in the first n of them
-
-u16-drop : (b : List ℕ) (i j : ℕ) → u16At (drop i b) j ≡ u16At b (i + j)
-u16-drop b i j =
-    ap₂ (λ (x y : ℕ). x + 2 ^ 8 * y) (getD-drop i b j 0) (getD-drop i b (j + 1) 0 ∙ ap (λ (k : ℕ). getD b k 0) (sym (add-assoc i j 1)))
-
-pub u32-drop : (b : List ℕ) (i j : ℕ) → u32At (drop i b) j ≡ u32At b (i + j)
-u32-drop b i j = ap₂ (λ (x y : ℕ). x + 2 ^ 16 * y) (u16-drop b i j) (u16-drop b i (j + 2) ∙ ap (u16At b) (sym (add-assoc i j 2)))
-
-pub u64-drop : (b : List ℕ) (i j : ℕ) → u64At (drop i b) j ≡ u64At b (i + j)
-u64-drop b i j = ap₂ (λ (x y : ℕ). x + 2 ^ 32 * y) (u32-drop b i j) (u32-drop b i (j + 4) ∙ ap (u32At b) (sym (add-assoc i j 4)))
+-- ---- a number in the first n bytes
 
 u16-take : (n : ℕ) (b : List ℕ) (i : ℕ) → i + 2 ≤ n → u16At (take n b) i ≡ u16At b i
 u16-take n b i h = ap₂ (λ (x y : ℕ). x + 2 ^ 8 * y) (getD-take n b i 0 (omega arith)) (getD-take n b (i + 1) 0 (omega arith))
@@ -115,19 +103,6 @@ module _ (b : List ℕ) (o : ℕ) where
       ∙ u32-drop b (o + 48) (4 * i)
 
 -- ---- how long a row is
-
-length-keep : {A : Type 0} (f : A → Bool) (xs : List A) → length (keep f xs) ≤ length xs
-unfolding keep
-length-keep f [] = le-refl 0
-length-keep f (x ∷ xs) = go (f x) (length-keep f xs)
-  where
-    go : (t : Bool) → length (keep f xs) ≤ length xs → length (cond t (x ∷ keep f xs) (keep f xs)) ≤ suc (length xs)
-    go true h = omega arith
-    go false h = omega arith
-
-pub count-le : (m : ℕ) → count m ≤ 64
-unfolding count partsIn
-count-le m = omega (arith, length-keep (has m) (upTo 64), length-upTo 64)
 
 pub remotes-le : (m : ℕ) → remotes m ≤ 63
 unfolding remotes

@@ -7,7 +7,8 @@ ghost use lib.ListN.{length};
 ghost use Rattle.paper.specs.Image.{rowLength};
 ghost use Rattle.paper.specs.Sound.{nameOfRow};
 ghost use Rattle.index.specs.Index.{rowFrom};
-ghost use Rattle.index.specs.Head.{marked, partsCounted, headNumber};
+ghost use Rattle.paper.specs.Sound.{marked, partsCounted};
+ghost use Rattle.index.specs.Head.{headNumber};
 ghost use Rattle.index.specs.Find.{Sorted, Lower, Searchable, Sought};
 ghost use Rattle.index.specs.Walk.{RowsAhead, RowsWalked, Walkable, WalkDone};
 
@@ -50,7 +51,7 @@ fn has_count(image: &[u8]) -> bool
 pub fn head(image: &[u8]) -> u32
     ensures { λ r. ⌜ r ≡ headNumber (now (image .entry)) ⌝ }
 {
-    if 1048576 < image.len() {
+    if paper::IMAGE_BYTES < image.len() {
         return 1;
     }
     if image.len() < 8 {

@@ -3,7 +3,7 @@ use Prim.Native.Nat.{ℕ, zero, suc, _+_, _-_, _^_, _≤_, _<_}
 use native.Mathlib.Numerals.{add-one}
 use native.Mathlib.Omega.{arith}
 use mathlib.Core.Path.{_≡_, refl, sym, ap, _∙_, subst}
-use mathlib.Core.Bool.{Bool, true, false, _&&_, _||_}
+use mathlib.Core.Bool.{Bool, true, false, _&&_, _||_, or-assoc, or-false}
 use mathlib.Core.Logic.{⊎-elim}
 use mathlib.Core.List.{List, [], _∷_, _++_, map}
 use lib.ListN.{length, getD, take, set}
@@ -17,17 +17,17 @@ use Rattle.part_set.specs.Masks.{has}
 use Rattle.paper.specs.Image.{Row, noRow, rowAt}
 use Rattle.paper.specs.Mesh.{slotsOf}
 use Rattle.index.specs.Index.{setIn}
-use Rattle.rules.specs.Marks.{slotsNamed}
-use Rattle.rules.proofs.rows.Laws.{row-there}
-use Rattle.rules.proofs.covered.Marks.{some-take}
+use Rattle.residence.specs.Marks.{slotsNamed}
+use Rattle.rows.proofs.Laws.{row-there}
+use Rattle.residence.proofs.covered.Marks.{some-take}
 use Rattle.marks.specs.Closures.{slotClosure, closureMarks, Marked, Readable, Closed, Markable}
-use Rattle.marks.proofs.Words.{or-assoc, or-none, or-and, mark-none, mark-same, mark-then, mark-set}
+use Rattle.marks.proofs.Words.{or-and, mark-none, mark-same, mark-then, mark-set}
 use Rattle.marks.proofs.Rows.{known-room, named-count, face-known, face-markable}
 
 some-append : {A : Type 0} (f : A → Bool) (xs ys : List A) → some? f (xs ++ ys) ≡ (some? f xs || some? f ys)
 unfolding some?
 some-append f [] ys = refl
-some-append f (x ∷ xs) ys = ap (λ (t : Bool). f x || t) (some-append f xs ys) ∙ or-assoc (f x) (some? f xs) (some? f ys)
+some-append f (x ∷ xs) ys = ap (λ (t : Bool). f x || t) (some-append f xs ys) ∙ sym (or-assoc (f x) (some? f xs) (some? f ys))
 
 member-flat : (t : ℕ) (g : ℕ → List ℕ) (fs : List ℕ) → member t (flat (map g fs)) ≡ some? (λ f. member t (g f)) fs
 unfolding member some? flat
@@ -40,7 +40,7 @@ under d rows fs t = some? (λ f. member t (slotClosure d rows f)) fs
 
 closure-vertex : (rows : List Row) (s t : ℕ) → member t (slotClosure 0 rows s) ≡ eqb t s
 unfolding slotClosure member some?
-closure-vertex rows s t = or-none (eqb t s)
+closure-vertex rows s t = or-false (eqb t s)
 
 member-cons : (t x : ℕ) (xs : List ℕ) → member t (x ∷ xs) ≡ (eqb t x || member t xs)
 unfolding member some?

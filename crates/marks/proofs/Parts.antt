@@ -3,7 +3,7 @@ use Prim.Native.Nat.{ℕ, zero, suc, _+_, _-_, _≤_, _<_}
 use native.Mathlib.Numerals.{add-one}
 use native.Mathlib.Omega.{arith}
 use mathlib.Core.Path.{_≡_, refl, sym, ap, _∙_, subst}
-use mathlib.Core.Bool.{Bool, not, _||_}
+use mathlib.Core.Bool.{Bool, not, _||_, or-assoc, or-false}
 use mathlib.Core.Logic.{_⊎_, inl, inr}
 use mathlib.Core.List.{List, []}
 use lib.ListN.{length, getD}
@@ -13,18 +13,18 @@ use Rattle.laws.proofs.Tests.{decide}
 use Rattle.part_set.specs.Masks.{has}
 use Rattle.part_set.proofs.OnePart.{has-none}
 use Rattle.index.specs.Index.{setIn}
-use Rattle.rules.proofs.rows.Laws.{part-rows, part-there}
+use Rattle.rows.proofs.Laws.{part-rows, part-there}
 use Rattle.marks.specs.Closures.{objectMarks, partMarks, Marked, AllMarked, Closed, Blank, Placed}
-use Rattle.marks.proofs.Words.{or-assoc, or-none, mark-none, mark-same, mark-then}
+use Rattle.marks.proofs.Words.{mark-none, mark-same, mark-then}
 use Rattle.marks.proofs.Objects.{object-closed}
 
 some-from : (f : ℕ → Bool) (i k : ℕ) → some? f (from i (suc k)) ≡ (some? f (from i k) || f (i + k))
 unfolding some? from
-some-from f i zero = let e : i + 0 ≡ i = omega arith in or-none (f i) ∙ ap f (sym e)
+some-from f i zero = let e : i + 0 ≡ i = omega arith in or-false (f i) ∙ ap f (sym e)
 some-from f i (suc k) =
     let e : suc i + k ≡ i + suc k = omega arith in
     ap (λ (x : Bool). f i || x) (some-from f (suc i) k ∙ ap (λ (j : ℕ). some? f (from (suc i) k) || f j) e)
-    ∙ or-assoc (f i) (some? f (from (suc i) k)) (f (i + suc k))
+    ∙ sym (or-assoc (f i) (some? f (from (suc i) k)) (f (i + suc k)))
 
 some-up : (f : ℕ → Bool) (k : ℕ) → some? f (upTo (k + 1)) ≡ (some? f (upTo k) || f k)
 unfolding upTo

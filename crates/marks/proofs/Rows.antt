@@ -1,34 +1,27 @@
 -- What rules 7 and 9 say of a row and of the rows that it names. Assumes nothing.
-use Prim.Native.Nat.{ℕ, zero, suc, _+_, _-_, _*_, _^_, _≤_, _<_}
+use Prim.Native.Nat.{ℕ, zero, suc, _+_, _-_, _*_, _≤_, _<_}
 use native.Mathlib.Nat.{not-suc-le-zero}
 use native.Mathlib.Numerals.{add-one}
 use native.Mathlib.Omega.{arith}
 use mathlib.Core.Path.{_≡_, refl, sym, ap, _∙_, subst}
 use mathlib.Core.List.{List, []}
 use lib.ListN.{length, getD}
-use lib.Dec.{T, eqb, ltb, leb, leb→le, ltb→lt, eqb→eq}
+use lib.Dec.{eqb, ltb, ltb→lt, eqb→eq}
 use Rattle.laws.specs.Lists.{In}
-use Rattle.laws.proofs.Tests.{split2, split8}
+use Rattle.laws.proofs.Tests.{split2}
 use Rattle.laws.proofs.Members.{getD-in}
 use Rattle.field.specs.Bytes.{u8At, u32At}
 use Rattle.field.proofs.Reading.{length-words}
-use Rattle.part_set.specs.Masks.{has}
 use Rattle.paper.specs.Image.{Row, noRow, rowAt}
 use Rattle.paper.specs.Mesh.{slotsOf}
-use Rattle.paper.specs.Sound.{valueFits, bodyFits, fieldsFit}
 use Rattle.index.specs.Index.{setIn, rowFrom}
 use Rattle.index.proofs.RowFields.{row-dim, row-word}
-use Rattle.rules.specs.Judged.{judged}
-use Rattle.rules.specs.Marks.{slotsNamed}
-use Rattle.rules.proofs.rows.Laws.{part-room, part-there, offset-there}
-use Rattle.rules.proofs.covered.Parts.{row-slots-stand, slot-stands, row-asked}
+use Rattle.paper.specs.Sound.{judged}
+use Rattle.residence.specs.Marks.{slotsNamed}
+use Rattle.rows.proofs.Laws.{part-room, part-there, offset-there}
+use Rattle.residence.proofs.covered.Parts.{row-slots-stand, slot-stands, row-asked}
+use Rattle.demands.proofs.Sound.Rows.{fields-of}
 use Rattle.marks.specs.Closures.{RowKnown, Markable, Closed}
-
-row-low : (n p : ℕ) (r : Row) → T (fieldsFit n p r) → r .dim ≤ 3
-unfolding fieldsFit
-row-low n p r t =
-    leb→le (r .dim) 3
-    (split8 (leb (r .dim) 3) (ltb (r .owner) n) (leb (r .kind) 2) (eqb (r .pad) 0) (ltb (r .mask) (2 ^ n)) (has (r .mask) p) (valueFits (r .kind) (r .value)) (bodyFits (r .dim) (r .body)) t .0)
 
 -- ---- the slots of a body
 
@@ -58,7 +51,7 @@ module _ {b offs starts : List ℕ} {p s : ℕ} (k : RowKnown b offs starts p s)
 
   pub low : rowAt (setIn b) p s .dim ≤ 3
   unfolding judged
-  low = row-low (length (setIn b)) p row (k .readable .fields p s (k .here))
+  low = fields-of (length (setIn b)) p row (k .readable .fields p s (k .here)) .dim
 
   pub known-asked : (p < length starts) × (getD starts p 0 + s < length offs)
   known-asked = row-asked (k .readable .index) p s (k .here)

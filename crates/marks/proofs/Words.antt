@@ -2,7 +2,7 @@
 use Prim.Native.Nat.{ℕ, _+_, _^_, _<_}
 use native.Mathlib.Omega.{arith}
 use mathlib.Core.Path.{_≡_, refl, sym, ap, _∙_}
-use mathlib.Core.Bool.{Bool, true, false, not, _&&_, _||_}
+use mathlib.Core.Bool.{Bool, true, false, not, _&&_, _||_, or-assoc, or-false}
 use mathlib.Core.Logic.{_⊎_, inl, inr}
 use mathlib.Core.List.{List, []}
 use lib.ListN.{length, getD, set, length-set}
@@ -14,14 +14,6 @@ use Rattle.part_set.specs.Masks.{has}
 use Rattle.part_set.proofs.OnePart.{has-with}
 use Rattle.index.specs.Index.{setIn}
 use Rattle.marks.specs.Closures.{Marked}
-
-pub or-assoc : (a b c : Bool) → (a || (b || c)) ≡ ((a || b) || c)
-or-assoc true b c = refl
-or-assoc false b c = refl
-
-pub or-none : (a : Bool) → (a || false) ≡ a
-or-none true = refl
-or-none false = refl
 
 -- one bit for both
 pub or-and : (a b e : Bool) → ((a && e) || (b && e)) ≡ ((a || b) && e)
@@ -46,14 +38,14 @@ module _ (first : ℕ) (w : List ℕ) (s q : ℕ) where
       let v = bitOr (getD w (first + s) 0) (2 ^ q) in
       let ne : t ≡ s → ⊥ = λ z. T-not (eqb t s) e (eq-eqb t s z) in
       ap (λ (x : ℕ). has x r) (getD-set-other w (first + s) (first + t) v 0 (λ z. ne (omega (arith, z))))
-      ∙ sym (or-none (has (getD w (first + t) 0) r))
+      ∙ sym (or-false (has (getD w (first + t) 0) r))
       ∙ ap (λ (x : Bool). has (getD w (first + t) 0) r || (x && eqb r q)) (sym (ne-eqb t s ne))
 
 module _ {b starts : List ℕ} {p : ℕ} where
   pub mark-none : (w : List ℕ) → Marked b starts p (λ t r. false) w w
   mark-none w = record {
     same = refl;
-    bit = λ t r h. sym (or-none (has (getD w (getD starts p 0 + t) 0) r));
+    bit = λ t r h. sym (or-false (has (getD w (getD starts p 0 + t) 0) r));
     before = λ g h. refl;
     behind = λ g h. refl;
   }
@@ -69,7 +61,7 @@ module _ {b starts : List ℕ} {p : ℕ} where
   pub mark-then : {h k : ℕ → ℕ → Bool} {w w′ w″ : List ℕ} → Marked b starts p h w w′ → Marked b starts p k w′ w″ → Marked b starts p (λ t r. h t r || k t r) w w″
   mark-then {h} {k} {w} m n = record {
     same = n .same ∙ m .same;
-    bit = λ t r l. n .bit t r l ∙ ap (λ (x : Bool). x || k t r) (m .bit t r l) ∙ sym (or-assoc (has (getD w (getD starts p 0 + t) 0) r) (h t r) (k t r));
+    bit = λ t r l. n .bit t r l ∙ ap (λ (x : Bool). x || k t r) (m .bit t r l) ∙ or-assoc (has (getD w (getD starts p 0 + t) 0) r) (h t r) (k t r);
     before = λ g l. n .before g l ∙ m .before g l;
     behind = λ g l. n .behind g l ∙ m .behind g l;
   }

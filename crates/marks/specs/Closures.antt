@@ -10,8 +10,8 @@ use Rattle.part_set.specs.Masks.{has}
 use Rattle.paper.specs.Image.{Row, noRow, rowAt}
 use Rattle.paper.specs.Mesh.{slotsOf}
 use Rattle.index.specs.Index.{setIn, Indexed}
-use Rattle.rules.specs.declared.Rule.the-variants.{Fields, Boundary}
-use Rattle.rules.specs.Judged.{Passed}
+use Rattle.paper.specs.declared.Rule.the-variants.{Fields, Boundary}
+use Rattle.demands.specs.Passed.{Passed}
 
 -- ---- which bits
 

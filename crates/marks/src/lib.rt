@@ -6,7 +6,7 @@ ghost use mathlib.Core.Path.{_≡_};
 ghost use mathlib.Core.List.{[]};
 ghost use lib.ListN.{length, getD, set, replicate};
 ghost use lib.Bits.{bitOr};
-ghost use Rattle.rules.specs.Marks.{slotsNamed};
+ghost use Rattle.residence.specs.Marks.{slotsNamed};
 ghost use Rattle.paper.specs.Image.{rowAt};
 ghost use Rattle.index.specs.Index.{setIn};
 ghost use Rattle.marks.specs.Closures.{RowKnown, Markable, Marked, closureMarks, Closed, Blank, Placed, objectMarks, partMarks, AllMarked};
@@ -36,7 +36,7 @@ fn face(image: &[u8], offs: &[u32], starts: &[u32], part: Part, slot: Slot, i: u
     requires { ⌜ i < length (slotsNamed (rowAt (setIn (now image)) (part .0) (slot .0))) ⌝ }
     ensures { λ r. ⌜ r .0 ≡ getD (slotsNamed (rowAt (setIn (now (image .entry))) (part .0) (slot .0))) i 0 ⌝ }
 {
-    let at = rules::rows::offset_of(offs, starts, part, slot);
+    let at = rows::offset_of(offs, starts, part, slot);
     Slot(field::word_at(image, at + 24 + 4 * i))
 }
 
@@ -55,7 +55,7 @@ fn mark(
     requires { ⌜ Markable (now image) (now offs) (now starts) (part .0) (slot .0) dim q (now work) ⌝ }
     ensures { λ _. ⌜ Marked (now (image .entry)) (now (starts .entry)) (part .0) (closureMarks (now (image .entry)) (part .0) dim (slot .0) q) (now (work .entry)) (now (work .exit)) ⌝ }
 {
-    let row = rules::rows::row_of(starts, part, slot);
+    let row = rows::row_of(starts, part, slot);
     if part_set::has(work[row], q) {
         return;
     }
@@ -88,11 +88,11 @@ fn mark_object(
     requires { ⌜ Closed (now image) (now starts) (part .0) (now work) ⌝ }
     ensures { λ _. ⌜ Marked (now (image .entry)) (now (starts .entry)) (part .0) (objectMarks (now (image .entry)) (now (starts .entry)) (now (covered .entry)) (now (dest .entry)) (part .0) (slot .0)) (now (work .entry)) (now (work .exit)) ⌝ }
 {
-    let row = rules::rows::row_of(starts, part, slot);
+    let row = rows::row_of(starts, part, slot);
     if covered[row] != 0 {
         return;
     }
-    let at = rules::rows::offset_of(offs, starts, part, slot);
+    let at = rows::offset_of(offs, starts, part, slot);
     let dim = field::byte_at(image, at + 4) as usize;
     let q = field::wide(dest[row]);
     mark(image, offs, starts, part, slot, dim, q, work);
@@ -113,7 +113,7 @@ fn mark_part(
     requires { ⌜ Closed (now image) (now starts) (part .0) (now work) ⌝ }
     ensures { λ _. ⌜ Marked (now (image .entry)) (now (starts .entry)) (part .0) (partMarks (now (image .entry)) (now (starts .entry)) (now (covered .entry)) (now (dest .entry)) (part .0)) (now (work .entry)) (now (work .exit)) ⌝ }
 {
-    let count = rules::rows::rows_in(starts, part);
+    let count = rows::rows_in(starts, part);
     let mut s = 0;
     while s < count {
         mark_object(image, offs, starts, covered, dest, part, Slot(s), work);

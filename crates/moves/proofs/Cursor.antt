@@ -13,7 +13,7 @@ use Rattle.laws.specs.Lists.{flat}
 use Rattle.paper.specs.Image.{Set}
 use Rattle.paper.specs.Mesh.{partsOf, holds}
 use Rattle.paper.specs.Move.{entryName, allEntries}
-use Rattle.order.specs.Runs.{keyIn}
+use Rattle.merge.specs.Runs.{keyIn}
 use Rattle.moves.specs.Catalog.{Listing, Present, Behind, Lower, Catalog}
 use Rattle.moves.proofs.Loops.{AtEntry, start}
 

@@ -11,7 +11,7 @@ use Rattle.laws.specs.Lists.{In, flat, ascending}
 use Rattle.laws.proofs.Members.{in-map, in-flat, flat-in, in-getD}
 use Rattle.laws.proofs.Agree.{getD-map}
 use Rattle.laws.proofs.Ascending.{asc-getD}
-use Rattle.order.specs.Runs.{keyIn}
+use Rattle.merge.specs.Runs.{keyIn}
 use Rattle.paper.specs.Image.{rowAt}
 use Rattle.paper.specs.Mesh.{name, entOf, partsOf, meshOf, isObject, holds}
 use Rattle.paper.specs.Sound.{nameOfRow, residesWell}
@@ -21,8 +21,8 @@ use Rattle.demands.proofs.Sound.Facts.{Copied, Each}
 use Rattle.demands.proofs.Sound.Rows.{ent, in-part, agree}
 use Rattle.demands.proofs.ForCode.Covered.{row-object}
 use Rattle.index.specs.Index.{setIn, Indexed, Named}
-use Rattle.rules.specs.Tables.{Covers}
-use Rattle.rules.proofs.rows.Laws.{row-there}
+use Rattle.residence.specs.Tables.{Covers}
+use Rattle.rows.proofs.Laws.{row-there}
 use Rattle.entities.specs.declared.Listed.{Listed}
 use Rattle.entities.specs.LowestCopies.{Entities}
 use Rattle.entities.proofs.MeshOrder.{EntityAt, entities-mesh, entity-at}

@@ -6,5 +6,4 @@ pub mod Cursor
 pub mod Judging
 pub mod OpenRows
 pub mod FromTables
-pub mod Answers
 pub mod Stages

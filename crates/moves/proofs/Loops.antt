@@ -1,5 +1,5 @@
 -- The loop that looks for the first entry that fails, on plain values, for any test. Assumes nothing.
-use Prim.Native.Nat.{ℕ, suc, _+_, _-_, _≤_, _<_}
+use Prim.Native.Nat.{ℕ, _+_, _-_, _≤_, _<_}
 use native.Mathlib.Numerals.{add-one}
 use native.Mathlib.Omega.{arith}
 use mathlib.Core.Path.{_≡_, refl, sym, _∙_}
@@ -7,9 +7,7 @@ use mathlib.Core.Bool.{Bool, true, false, not}
 use mathlib.Core.Option.{none, some}
 use borrow.Author.Tests.{not-true, not-false}
 use Rattle.laws.specs.Lists.{from, upTo, firstBad}
-
-sub-step : (n i : ℕ) → i < n → n - i ≡ suc (n - suc i)
-sub-step n i h = omega arith
+use Rattle.laws.proofs.FirstBad.{sub-step}
 
 -- none of those before i fails, and what is left gives the answer
 pub record AtEntry (ok : ℕ → Bool) (n i : ℕ) : Type 0 where

@@ -1,134 +1,64 @@
--- The list in stages: where the rules before a rule pass, an entry that fails it is the paper's refusal, and where all pass sizing goes on.
--- Assumes nothing.
-use Prim.Native.Nat.{ℕ}
+-- The list from rule to rule: where the rules before a rule pass, the first entry that fails it is the paper's refusal. Assumes nothing.
+use Prim.Native.Nat.{ℕ, suc, _<_}
+use native.Mathlib.Nat.{le-of-suc-le-suc, eq-or-lt-of-le}
 use native.Mathlib.Omega.{arith}
-use mathlib.Core.Path.{_≡_, ap, _∙_}
+use mathlib.Core.Path.{_≡_, refl, sym, ap, _∙_, subst}
+use mathlib.Core.Logic.{⊎-elim}
 use mathlib.Core.List.{List}
-use mathlib.Core.Option.{Option, none, some}
 use lib.ListN.{length}
-use lib.Dec.{leb}
-use Rattle.laws.specs.Lists.{upTo, firstBad}
-use Rattle.laws.proofs.FirstBad.{all-none}
-use Rattle.paper.specs.Outcome.{Outcome, refused, accepted, _>>_, must, unless}
-use Rattle.paper.specs.Image.{Set, rowTotal}
-use Rattle.paper.specs.Sound.{maxImage}
-use Rattle.paper.specs.Move.{allEntries, entryPlace, entriesMust, migrated, sizeSet}
-use Rattle.demands.proofs.Rows.Outcomes.{then-ok}
-use Rattle.moves.specs.declared.EntryRule.{EntryRule}
-use Rattle.moves.specs.declared.EntryRule.the-variants.{Whole, Destination, Entity, Object}
+use Rattle.paper.specs.declared.EntryRule.{EntryRule}
+use Rattle.paper.specs.declared.EntryRule.the-variants.{Whole, Destination, Known, Object}
+use Rattle.paper.specs.declared.Refusal.{Refusal}
+use Rattle.paper.specs.Outcome.{atEntry, refusal, placeOf, refused}
+use Rattle.paper.specs.Image.{Set}
+use Rattle.paper.specs.Move.{entryNumber, entryRank, sizeSet}
+use Rattle.paper.proofs.Ranks.{one-entry-rank}
+use Rattle.demands.specs.Passed.{EntriesPassed, EntriesPassedAhead, ListPassed}
+use Rattle.demands.proofs.Rows.Entries.{firstEntry, clear-passes, list-stops}
 use Rattle.moves.specs.declared.Bad.{Bad}
 use Rattle.moves.specs.declared.Bad.the-variants.{None, At}
-use Rattle.moves.specs.Entries.{entryTest, badEntry, PassedBelow, EntryReady, SweepReady}
+use Rattle.moves.specs.declared.ListStage.{ListStage}
+use Rattle.moves.specs.declared.ListStage.the-variants.{Stop}
+use Rattle.moves.specs.Entries.{badEntry, EntryReady, SweepReady}
 use Rattle.moves.specs.Catalog.{Catalog}
-use Rattle.moves.proofs.Answers.{Passed, clear-passes, fault-must}
+use Rattle.moves.specs.Stages.{ListJudged}
 
--- ---- one rule more has passed
+module _ (S : Set) (l : List ℕ) (rule : EntryRule) (ahead : EntriesPassedAhead rule S l) (bad : Bad) (found : badEntry bad ≡ firstEntry S l rule) where
+  -- no entry fails: one rule more has passed
+  through : bad ≡ None → (told : EntryRule) → entryRank told < suc (entryRank rule) → EntriesPassed told S l
+  through e told h =
+      ⊎-elim
+      (λ (is : entryRank told ≡ entryRank rule).
+      subst (λ (r : EntryRule). EntriesPassed r S l) (sym (one-entry-rank told rule is)) (clear-passes S l rule (sym found ∙ ap badEntry e)))
+      (λ (m : entryRank told < entryRank rule). ahead told m) (eq-or-lt-of-le (le-of-suc-le-suc h))
 
-module _ (S : Set) (l : List ℕ) where
-  none-before : PassedBelow 13 S l
-  none-before Whole h = absurd (omega arith)
-  none-before Destination h = absurd (omega arith)
-  none-before Entity h = absurd (omega arith)
-  none-before Object h = absurd (omega arith)
+  pub passed-on : (next : EntryRule) → entryRank next ≡ suc (entryRank rule) → bad ≡ None → EntriesPassedAhead next S l
+  passed-on next step e told h = through e told (omega (arith, step, h))
 
-  then-whole : Passed Whole S l → PassedBelow 14 S l
-  then-whole p Whole h = p
-  then-whole p Destination h = absurd (omega arith)
-  then-whole p Entity h = absurd (omega arith)
-  then-whole p Object h = absurd (omega arith)
+  -- one fails: the list stops
+  pub stops : (i : ℕ) → bad ≡ At i → (stage : ListStage) → stage ≡ Stop (refusal (entryNumber rule) (atEntry i)) → ListJudged S l stage
+  unfolding ListJudged
+  stops i e stage is = rw is (λ work. list-stops S l rule i work ahead (sym found ∙ ap badEntry e))
 
-  then-destination : PassedBelow 14 S l → Passed Destination S l → PassedBelow 15 S l
-  then-destination f p Whole h = f Whole (omega arith)
-  then-destination f p Destination h = p
-  then-destination f p Entity h = absurd (omega arith)
-  then-destination f p Object h = absurd (omega arith)
+pub all-passed : (S : Set) (l : List ℕ) (bad : Bad) → EntriesPassedAhead Object S l → badEntry bad ≡ firstEntry S l Object → bad ≡ None → ListPassed S l
+all-passed S l bad ahead found e Whole = ahead Whole (omega arith)
+all-passed S l bad ahead found e Destination = ahead Destination (omega arith)
+all-passed S l bad ahead found e Known = ahead Known (omega arith)
+all-passed S l bad ahead found e Object = clear-passes S l Object (sym found ∙ ap badEntry e)
 
-  then-entity : PassedBelow 15 S l → Passed Entity S l → PassedBelow 16 S l
-  then-entity f p Whole h = f Whole (omega arith)
-  then-entity f p Destination h = f Destination (omega arith)
-  then-entity f p Entity h = p
-  then-entity f p Object h = absurd (omega arith)
+-- ---- what each rule is ready by
 
-  then-object : PassedBelow 16 S l → Passed Object S l → PassedBelow 17 S l
-  then-object f p Whole h = f Whole (omega arith)
-  then-object f p Destination h = f Destination (omega arith)
-  then-object f p Entity h = f Entity (omega arith)
-  then-object f p Object h = p
+module _ {S : Set} {l : List ℕ} where
+  pub first-ready : {n : ℕ} → length S ≡ n → EntryReady Whole S l n
+  first-ready parts = record { early = omega arith; parts = parts; passed = λ rule h. absurd (omega arith) }
 
--- ---- the paper's sizing
+  pub second-ready : {n : ℕ} → EntryReady Whole S l n → (bad : Bad) → badEntry bad ≡ firstEntry S l Whole → bad ≡ None → EntryReady Destination S l n
+  second-ready r bad found e = record { early = omega arith; parts = r .parts; passed = passed-on S l Whole (r .passed) bad found Destination refl e }
 
--- a rule that passes is stepped over
-over : {A : Type 0} (rule : EntryRule) (S : Set) (l : List ℕ) (rest : Outcome A) (k : ℕ) → Passed rule S l → (entriesMust k l (entryTest rule S l) >> rest) ≡ rest
-unfolding entriesMust unless
-over rule S l rest k pass =
-    then-ok _ _ tt (ap (λ (o : Option ℕ). unless k (elim o [ none ↦ none | some i ↦ some (entryPlace i) ])) (all-none (entryTest rule S l) (allEntries l) pass))
+  pub third-ready : {n : ℕ} {keys ord covered : List ℕ} {count : ℕ} → EntryReady Destination S l n → Catalog S keys ord covered count → (bad : Bad)
+      → badEntry bad ≡ firstEntry S l Destination → bad ≡ None → SweepReady Known S l keys ord covered count
+  third-ready r c bad found e = record { late = omega arith; catalog = c; passed = passed-on S l Destination (r .passed) bad found Known refl e }
 
--- one that does not stops it
-stop : {A : Type 0} (rule : EntryRule) (S : Set) (l : List ℕ) (rest : Outcome A) (k : ℕ) (bad : Bad) (i : ℕ)
-    → badEntry bad ≡ firstBad (entryTest rule S l) (upTo (allEntries l)) → bad ≡ At i → (entriesMust k l (entryTest rule S l) >> rest) ≡ refused k (entryPlace i)
-unfolding _>>_
-stop rule S l rest k bad i found e = ap (λ (o : Outcome (Unit {0})). o >> rest) (fault-must rule S l bad found i e k)
-
-module _ (S : Set) (l : List ℕ) (bad : Bad) (i : ℕ) (e : bad ≡ At i) where
-  stops-whole : badEntry bad ≡ firstBad (entryTest Whole S l) (upTo (allEntries l)) → (work : ℕ) → sizeSet S l work ≡ refused 13 (entryPlace i)
-  unfolding sizeSet entryTest
-  stops-whole found work = stop Whole S l _ 13 bad i found e
-
-  stops-destination : PassedBelow 14 S l → badEntry bad ≡ firstBad (entryTest Destination S l) (upTo (allEntries l)) → (work : ℕ) → sizeSet S l work ≡ refused 14 (entryPlace i)
-  unfolding sizeSet entryTest
-  stops-destination f found work = over Whole S l _ 13 (f Whole (omega arith)) ∙ stop Destination S l _ 14 bad i found e
-
-  stops-entity : PassedBelow 15 S l → badEntry bad ≡ firstBad (entryTest Entity S l) (upTo (allEntries l)) → (work : ℕ) → sizeSet S l work ≡ refused 15 (entryPlace i)
-  unfolding sizeSet entryTest
-  stops-entity f found work =
-      over Whole S l _ 13 (f Whole (omega arith)) ∙ over Destination S l _ 14 (f Destination (omega arith)) ∙ stop Entity S l _ 15 bad i found e
-
-  stops-object : PassedBelow 16 S l → badEntry bad ≡ firstBad (entryTest Object S l) (upTo (allEntries l)) → (work : ℕ) → sizeSet S l work ≡ refused 16 (entryPlace i)
-  unfolding sizeSet entryTest
-  stops-object f found work =
-      over Whole S l _ 13 (f Whole (omega arith)) ∙ over Destination S l _ 14 (f Destination (omega arith)) ∙ over Entity S l _ 15 (f Entity (omega arith))
-      ∙ stop Object S l _ 16 bad i found e
-
--- where every entry passes, what is left of sizing are the refusals 17 and 18
-pub all-pass : (S : Set) (l : List ℕ) (work : ℕ) → PassedBelow 17 S l
-    → sizeSet S l work ≡ (must 17 (leb (rowTotal S) work) >> (must 18 (leb (length (migrated S l .image)) maxImage) >> accepted (migrated S l)))
-unfolding sizeSet entryTest
-all-pass S l work f =
-    over Whole S l _ 13 (f Whole (omega arith)) ∙ over Destination S l _ 14 (f Destination (omega arith)) ∙ over Entity S l _ 15 (f Entity (omega arith))
-    ∙ over Object S l _ 16 (f Object (omega arith))
-
--- ---- from rule to rule
-
-module _ {S : Set} {l : List ℕ} {n : ℕ} where
-  pub first-ready : length S ≡ n → EntryReady Whole S l n
-  first-ready parts = record { early = omega arith; parts = parts; passed = none-before S l }
-
-  module _ (r : EntryReady Whole S l n) (bad : Bad) where
-    pub whole-stops : (i : ℕ) → bad ≡ At i → badEntry bad ≡ firstBad (entryTest Whole S l) (upTo (allEntries l)) → (work : ℕ) → sizeSet S l work ≡ refused 13 (entryPlace i)
-    whole-stops i e found = stops-whole S l bad i e found
-
-    pub whole-passes : bad ≡ None → badEntry bad ≡ firstBad (entryTest Whole S l) (upTo (allEntries l)) → EntryReady Destination S l n
-    whole-passes e found = record { early = omega arith; parts = r .parts; passed = then-whole S l (clear-passes Whole S l bad found e) }
-
-  module _ (r : EntryReady Destination S l n) (bad : Bad) where
-    pub destination-stops : (i : ℕ) → bad ≡ At i → badEntry bad ≡ firstBad (entryTest Destination S l) (upTo (allEntries l)) → (work : ℕ) → sizeSet S l work ≡ refused 14 (entryPlace i)
-    destination-stops i e found = stops-destination S l bad i e (r .passed) found
-
-    pub destination-passes : {keys ord covered : List ℕ} {count : ℕ} → Catalog S keys ord covered count → bad ≡ None
-        → badEntry bad ≡ firstBad (entryTest Destination S l) (upTo (allEntries l)) → SweepReady Entity S l keys ord covered count
-    destination-passes c e found = record { late = omega arith; catalog = c; passed = then-destination S l (r .passed) (clear-passes Destination S l bad found e) }
-
-module _ {S : Set} {l keys ord covered : List ℕ} {count : ℕ} where
-  module _ (r : SweepReady Entity S l keys ord covered count) (bad : Bad) where
-    pub entity-stops : (i : ℕ) → bad ≡ At i → badEntry bad ≡ firstBad (entryTest Entity S l) (upTo (allEntries l)) → (work : ℕ) → sizeSet S l work ≡ refused 15 (entryPlace i)
-    entity-stops i e found = stops-entity S l bad i e (r .passed) found
-
-    pub entity-passes : bad ≡ None → badEntry bad ≡ firstBad (entryTest Entity S l) (upTo (allEntries l)) → SweepReady Object S l keys ord covered count
-    entity-passes e found = record { late = omega arith; catalog = r .catalog; passed = then-entity S l (r .passed) (clear-passes Entity S l bad found e) }
-
-  module _ (r : SweepReady Object S l keys ord covered count) (bad : Bad) where
-    pub object-stops : (i : ℕ) → bad ≡ At i → badEntry bad ≡ firstBad (entryTest Object S l) (upTo (allEntries l)) → (work : ℕ) → sizeSet S l work ≡ refused 16 (entryPlace i)
-    object-stops i e found = stops-object S l bad i e (r .passed) found
-
-    pub object-passes : bad ≡ None → badEntry bad ≡ firstBad (entryTest Object S l) (upTo (allEntries l)) → PassedBelow 17 S l
-    object-passes e found = then-object S l (r .passed) (clear-passes Object S l bad found e)
+  pub last-ready : {keys ord covered : List ℕ} {count : ℕ} → SweepReady Known S l keys ord covered count → (bad : Bad)
+      → badEntry bad ≡ firstEntry S l Known → bad ≡ None → SweepReady Object S l keys ord covered count
+  last-ready r bad found e = record { late = omega arith; catalog = r .catalog; passed = passed-on S l Known (r .passed) bad found Object refl e }

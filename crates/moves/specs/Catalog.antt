@@ -8,7 +8,7 @@ use lib.Dec.{T, eqb}
 use Rattle.laws.specs.Lists.{flat}
 use Rattle.paper.specs.Image.{Set}
 use Rattle.paper.specs.Mesh.{partsOf, isObject, holds}
-use Rattle.order.specs.Runs.{keyIn}
+use Rattle.merge.specs.Runs.{keyIn}
 
 -- the first `count` entries of ord are rows, and their names ascend strictly
 pub record Listing (keys ord : List ℕ) (count : ℕ) : Type 0 where

@@ -1,21 +1,17 @@
-// The list of a move: entry i is the eight bytes from 8 i. Its entries are read, and judged under the refusals 13 to 16.
+// The list of a move: entry i is the eight bytes from 8 i. Its entries are read, and judged by the rules of a list.
+use paper::EntryRule;
+use paper::Refusal;
 ghost use Prim.Native.Nat.{_+_, _*_, _≤_, _<_};
 ghost use mathlib.Core.Path.{_≡_};
 ghost use lib.ListN.{length};
 ghost use Rattle.laws.specs.Lists.{upTo, firstBad};
-ghost use Rattle.paper.specs.Move.{entryName, entryPart, allEntries, ascends, entryFits};
+ghost use Rattle.paper.specs.Outcome.{atEntry, refusal};
+ghost use Rattle.paper.specs.Move.{entryName, entryPart, allEntries, ascends, entryFits, entryNumber, entryJudged};
 ghost use Rattle.index.specs.Index.{setIn};
-ghost use Rattle.moves.specs.Entries.{entryTest, badEntry, EntryReady, SweepReady};
+ghost use Rattle.moves.specs.declared.ListStage.the-variants.{Stop};
+ghost use Rattle.moves.specs.Entries.{badEntry, EntryReady, SweepReady};
 ghost use Rattle.moves.specs.Catalog.{Listing, Behind, Lower, Catalog};
 ghost use Rattle.moves.specs.Stages.{ListJudged};
-
-// The refusals 13 to 16, which speak of an entry.
-pub enum EntryRule {
-    Whole,
-    Destination,
-    Entity,
-    Object,
-}
 
 // The first entry that fails, if one does.
 pub enum Bad {
@@ -23,9 +19,9 @@ pub enum Bad {
     At(usize),
 }
 
-// What the list as a whole comes to: a refusal with its number and the entry, or all entries pass.
+// What the list as a whole comes to: a refusal, or all entries pass.
 pub enum ListStage {
-    Stop(u32, usize),
+    Stop(Refusal),
     Go,
 }
 
@@ -84,11 +80,11 @@ pub fn entry_fits(list: &[u8], i: usize) -> bool
     (zeros == 0) & (dim <= 3) & after
 }
 
-// Does entry i pass the rule of refusal 13 or 14? The contract alone reads the image, here and below.
+// Does entry i pass the rule, Whole or Destination? The contract alone reads the image, here and below.
 fn judge_entry(rule: EntryRule, image: &[u8], list: &[u8], n: u32, i: usize) -> bool
     requires { ⌜ EntryReady rule (setIn (now image)) (now list) n ⌝ }
     requires { ⌜ i < allEntries (now list) ⌝ }
-    ensures { λ r. ⌜ r ≡ entryTest rule (setIn (now (image .entry))) (now (list .entry)) i ⌝ }
+    ensures { λ r. ⌜ r ≡ entryJudged rule (setIn (now (image .entry))) (now (list .entry)) i ⌝ }
 {
     match rule {
         EntryRule::Whole => entry_fits(list, i),
@@ -96,10 +92,10 @@ fn judge_entry(rule: EntryRule, image: &[u8], list: &[u8], n: u32, i: usize) -> 
     }
 }
 
-// The first entry that fails under the rule of refusal 13 or 14.
+// The first entry that fails under the rule, Whole or Destination.
 fn first_entry(rule: EntryRule, image: &[u8], list: &[u8], n: u32) -> Bad
     requires { ⌜ EntryReady rule (setIn (now image)) (now list) n ⌝ }
-    ensures { λ r. ⌜ badEntry r ≡ firstBad (entryTest rule (setIn (now (image .entry))) (now (list .entry))) (upTo (allEntries (now (list .entry)))) ⌝ }
+    ensures { λ r. ⌜ badEntry r ≡ firstBad (entryJudged rule (setIn (now (image .entry))) (now (list .entry))) (upTo (allEntries (now (list .entry)))) ⌝ }
 {
     let total = entries(list);
     let mut i = 0;
@@ -128,7 +124,7 @@ pub fn seek(keys: &[u64], ord: &[u32], count: usize, from: usize, name: u64) -> 
     j
 }
 
-// Does entry i pass the rule of refusal 15 or 16, where place j is the first whose name is not below the entry's?
+// Does entry i pass the rule, Known or Object, where place j is the first whose name is not below the entry's?
 fn judge_place(
     rule: EntryRule,
     image: &[u8],
@@ -143,7 +139,7 @@ fn judge_place(
     requires { ⌜ SweepReady rule (setIn (now image)) (now list) (now keys) (now ord) (now covered) count ⌝ }
     requires { ⌜ i < allEntries (now list) ⌝ }
     requires { ⌜ Lower (now keys) (now ord) count (entryName (now list) i) j ⌝ }
-    ensures { λ r. ⌜ r ≡ entryTest rule (setIn (now (image .entry))) (now (list .entry)) i ⌝ }
+    ensures { λ r. ⌜ r ≡ entryJudged rule (setIn (now (image .entry))) (now (list .entry)) i ⌝ }
 {
     if j == count {
         return false;
@@ -155,7 +151,7 @@ fn judge_place(
     }
 }
 
-// The first entry that fails under the rule of refusal 15 or 16: entries and entities both ascend, so one sweep finds every name.
+// The first entry that fails under the rule, Known or Object: entries and entities both ascend, so one sweep finds every name.
 fn sweep(
     rule: EntryRule,
     image: &[u8],
@@ -166,7 +162,7 @@ fn sweep(
     count: usize,
 ) -> Bad
     requires { ⌜ SweepReady rule (setIn (now image)) (now list) (now keys) (now ord) (now covered) count ⌝ }
-    ensures { λ r. ⌜ badEntry r ≡ firstBad (entryTest rule (setIn (now (image .entry))) (now (list .entry))) (upTo (allEntries (now (list .entry)))) ⌝ }
+    ensures { λ r. ⌜ badEntry r ≡ firstBad (entryJudged rule (setIn (now (image .entry))) (now (list .entry))) (upTo (allEntries (now (list .entry)))) ⌝ }
 {
     let total = entries(list);
     let mut from = 0;
@@ -181,7 +177,14 @@ fn sweep(
     Bad::None
 }
 
-// Judges the list under the refusals 13 to 16 in turn: all entries pass one before any is judged under the next.
+// The list stops at entry i under the rule.
+fn stop(rule: EntryRule, i: usize) -> ListStage
+    ensures { λ r. ⌜ r ≡ Stop (refusal (entryNumber rule) (atEntry i)) ⌝ }
+{
+    ListStage::Stop(Refusal::at_entry(rule.number(), i))
+}
+
+// Judges the list by its rules in turn: all entries pass one before any is judged under the next.
 pub fn list_rules(
     image: &[u8],
     list: &[u8],
@@ -197,22 +200,22 @@ pub fn list_rules(
 {
     let whole = first_entry(EntryRule::Whole, image, list, n);
     match whole {
-        Bad::At(i) => return ListStage::Stop(13, i),
+        Bad::At(i) => return stop(EntryRule::Whole, i),
         Bad::None => {}
     }
     let part = first_entry(EntryRule::Destination, image, list, n);
     match part {
-        Bad::At(i) => return ListStage::Stop(14, i),
+        Bad::At(i) => return stop(EntryRule::Destination, i),
         Bad::None => {}
     }
-    let entity = sweep(EntryRule::Entity, image, list, keys, ord, covered, count);
-    match entity {
-        Bad::At(i) => return ListStage::Stop(15, i),
+    let known = sweep(EntryRule::Known, image, list, keys, ord, covered, count);
+    match known {
+        Bad::At(i) => return stop(EntryRule::Known, i),
         Bad::None => {}
     }
     let object = sweep(EntryRule::Object, image, list, keys, ord, covered, count);
     match object {
-        Bad::At(i) => return ListStage::Stop(16, i),
+        Bad::At(i) => return stop(EntryRule::Object, i),
         Bad::None => {}
     }
     ListStage::Go

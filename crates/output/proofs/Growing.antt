@@ -6,9 +6,9 @@ use native.Mathlib.Omega.{arith}
 use mathlib.Core.Path.{_≡_, refl, sym, ap, _∙_}
 use mathlib.Core.Logic.{⊎-elim}
 use mathlib.Core.List.{List, [], _++_}
-use lib.ListN.{length, drop, length-append}
-use lib.Seq.{sets, length-sets, sets-eq}
-use Rattle.field.proofs.Stores.{sets-then}
+use lib.ListN.{length, length-append}
+use lib.Seq.{sets, length-sets}
+use Rattle.laws.proofs.Stores.{sets-then}
 use Rattle.writer.specs.Written.{Put}
 use Rattle.output.specs.Parts.{pieces}
 
@@ -58,9 +58,3 @@ module _ {f : ℕ → List ℕ} {n : ℕ} {start out : List ℕ} {q at : ℕ} (g
 
   pub growing-done : n ≤ q → out ≡ sets start 8 (pieces f n)
   growing-done h = let e : q ≡ n = omega (arith, g .to) in g .put ∙ ap (λ (k : ℕ). sets start 8 (pieces f k)) e
-
--- a list written over the front of another stands before what is left of that
-pub sets-front : (out xs : List ℕ) → length xs ≤ length out → sets out 0 xs ≡ xs ++ drop (length xs) out
-sets-front out xs h =
-    let e : 0 + length xs ≡ length xs = omega arith in
-    sets-eq xs out 0 (omega arith) ∙ ap (λ (k : ℕ). xs ++ drop k out) e

@@ -11,7 +11,8 @@ use Rattle.laws.specs.Lists.{In, keep, upTo}
 use Rattle.laws.proofs.Agree.{keep-agree}
 use Rattle.laws.proofs.Members.{keep-in, getD-in}
 use Rattle.laws.proofs.Ranges.{upTo-in}
-use Rattle.field.proofs.Stores.{sets-then, length-run, getD-run}
+use Rattle.laws.proofs.Stores.{sets-then, sets-front}
+use Rattle.field.proofs.Stores.{length-run, getD-run}
 use Rattle.part_set.specs.Masks.{has}
 use Rattle.paper.specs.Image.{partBytes}
 use Rattle.index.specs.Index.{setIn}
@@ -22,13 +23,12 @@ use Rattle.demands.proofs.ForCode.Written.{partWritten, partsWritten, part-writ
 use Rattle.writer.specs.Rows.{PartReady}
 use Rattle.writer.proofs.Right.{rows-right}
 use Rattle.output.specs.Parts.{pieces, partBy, PartsReady}
-use Rattle.output.proofs.Growing.{sets-front}
-use Rattle.output.proofs.Filled.{Filled, begins-up, part-listed, part-members}
+use Rattle.output.proofs.TablesFilled.{TablesFilled, begins-up, part-listed, part-members}
 use Rattle.output.proofs.Masks.{well, mask-is}
 use Rattle.output.proofs.Ready.{row-ready, row-right}
 
 module _ {b l offs starts ord ent masks counts base slots members begins : List ℕ} {n m : ℕ} (P : Prepared b l offs starts ord ent masks counts n m)
-    (y : T (areBytes b)) (F : Filled masks base slots members begins n m) where
+    (y : T (areBytes b)) (F : TablesFilled masks base slots members begins n m) where
   abbrev count : ℕ → ℕ
   count q = getD begins (q + 1) 0 - getD begins q 0
 

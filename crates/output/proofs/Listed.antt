@@ -11,10 +11,10 @@ use lib.Seq.{take-suc, getD-drop}
 use lib.Dec.{T}
 use Rattle.laws.specs.Lists.{keep, from, upTo}
 use Rattle.laws.proofs.Tests.{true-T}
+use Rattle.laws.proofs.Totals.{upTo-snoc}
 use Rattle.part_set.specs.Masks.{has}
 use Rattle.slots.specs.Slots.{slotOf}
-use Rattle.slots.proofs.Totals.{slot-none, slot-suc}
-use Rattle.demands.proofs.ForCode.Spread.{upTo-snoc}
+use Rattle.slots.proofs.SlotLaws.{slot-none, slot-suc}
 
 keep-append : (t : ℕ → Bool) (xs ys : List ℕ) → keep t (xs ++ ys) ≡ keep t xs ++ keep t ys
 unfolding keep

@@ -3,25 +3,19 @@
 use Prim.Native.Nat.{ℕ, zero, suc, _+_, _*_, _^_, _≤_, _<_}
 use native.Mathlib.Nat.{mul-le-mul-left}
 use native.Mathlib.Omega.{arith}
-use mathlib.Core.Path.{_≡_, refl, sym, ap, _∙_, subst}
+use mathlib.Core.Path.{_≡_, sym, ap, _∙_, subst}
 use mathlib.Core.List.{List}
 use lib.ListN.{length, getD}
+use Rattle.laws.proofs.Totals.{total-same}
+use Rattle.laws.specs.Lists.{total}
 use Rattle.part_set.specs.Masks.{count}
 use Rattle.paper.specs.Placement.{imageFor, WellPlaced}
 use Rattle.index.specs.Index.{setIn}
 use Rattle.plan.specs.Plan.{mesh, placing, made, newImage, Prepared}
-use Rattle.slots.specs.Slots as slots
 use Rattle.slots.specs.Slots.{slotOf, tab, rowsTo, bytesTo, mostRows}
-use Rattle.slots.proofs.Totals.{total-same, slot-same}
+use Rattle.slots.proofs.SlotLaws.{slot-same}
 use Rattle.demands.proofs.ForCode.Spread.{maskAt, slotBy, mask-lt}
-use Rattle.demands.proofs.ForCode.Sizes as sizes
 use Rattle.demands.proofs.ForCode.Sizes.{image-size}
-
--- the two sums are one
-sums-agree : (g : ℕ → ℕ) (n : ℕ) → slots.total g n ≡ sizes.total g n
-unfolding slots.total sizes.total
-sums-agree g zero = refl
-sums-agree g (suc n) = ap (λ (k : ℕ). k + g n) (sums-agree g n)
 
 -- a row takes 48 bytes or more
 row-bytes : (k : ℕ) → 48 * k ≤ k * (44 + 4 * k)
@@ -31,7 +25,7 @@ row-bytes (suc k) =
     omega (arith, mul-le-mul-left (suc k) h)
 
 rows-bytes : (M : ℕ → ℕ) (n : ℕ) → 48 * rowsTo M n ≤ bytesTo M n
-unfolding slots.total
+unfolding total
 rows-bytes M zero = omega arith
 rows-bytes M (suc n) = omega (arith, rows-bytes M n, row-bytes (count (M n)))
 
@@ -56,9 +50,9 @@ module _ {b l offs starts ord ent masks counts : List ℕ} {n m : ℕ} (P : Prep
   bytes-are =
       let M : ℕ → ℕ = maskAt (made b l) (mesh b) in
       let g : ℕ → ℕ = λ i. count (M i) * (44 + 4 * count (M i)) in
-      let e : bytesTo (tab masks) m ≡ sizes.total g (length (mesh b)) =
+      let e : bytesTo (tab masks) m ≡ total g (length (mesh b)) =
       total-same (λ i. count (getD masks i 0) * (44 + 4 * count (getD masks i 0))) g m (λ i h. ap (λ (w : ℕ). count w * (44 + 4 * count w)) (mask-is i h))
-      ∙ sums-agree g m ∙ ap (sizes.total g) (P .source .ordered .count) in
+      ∙ ap (total g) (P .source .ordered .count) in
       image-size (length (setIn b)) (mesh b) (placing b l) well ∙ ap (λ (k : ℕ). 8 + 4 * length (setIn b) + k) (sym e)
 
   pub head-there : 8 ≤ length (newImage b l)

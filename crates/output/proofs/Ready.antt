@@ -20,7 +20,7 @@ use Rattle.demands.proofs.ForCode.SpreadRows.{face-index}
 use Rattle.writer.specs.Entries.{entryFrom, entryOf, Entered}
 use Rattle.writer.specs.Rows.{sourceAt, faceAt, RowReady}
 use Rattle.writer.proofs.Right.{Right}
-use Rattle.output.proofs.Filled.{Filled, slots-there, entered, entry-is}
+use Rattle.output.proofs.TablesFilled.{TablesFilled, slots-there, entered, entry-is}
 use Rattle.output.proofs.Masks.{well, mask-is, slot-is}
 use Rattle.output.proofs.Source.{order-there, source-there, lowest-there, mask-some, number-is, dim-is, kind-is, value-is, low-dim, coords-are, faces-are, face-named, face-at}
 
@@ -30,7 +30,7 @@ some-suc zero h = absurd (omega arith)
 some-suc (suc c) h = (c, refl)
 
 module _ {b l offs starts ord ent masks counts base slots members begins : List ℕ} {n m : ℕ} (P : Prepared b l offs starts ord ent masks counts n m)
-    (y : T (areBytes b)) (F : Filled masks base slots members begins n m) where
+    (y : T (areBytes b)) (F : TablesFilled masks base slots members begins n m) where
   sound : Copied (setIn b)
   sound = sound-inv b (setIn b) y (P .source .sound) .0 .copied
 

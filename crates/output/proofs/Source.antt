@@ -11,20 +11,20 @@ use Rattle.laws.specs.Lists.{In, flat}
 use Rattle.laws.proofs.Members.{getD-in, in-map}
 use Rattle.laws.proofs.Agree.{map-of-map, map-same}
 use Rattle.field.specs.Bytes.{u8At, u32At, u64At, words, bytesOf}
-use Rattle.field.proofs.Reading.{length-words}
+use Rattle.field.proofs.Reading.{length-words, u32-drop}
 use Rattle.part_set.specs.Masks.{has, lowestOf}
 use Rattle.part_set.proofs.OnePart.{has-none}
 use Rattle.paper.specs.Image.{Row, noRow, rowAt}
 use Rattle.paper.specs.Mesh.{Entity, nameOf, noEnt, slotsOf, shapeOf, entOf, slotIn}
 use Rattle.index.specs.Index.{rowFrom, setIn, Indexed}
-use Rattle.index.proofs.RowFields.{u32-drop, getD-words, row-number, row-dim, row-kind, row-mask, row-value, row-body, row-word}
+use Rattle.index.proofs.RowFields.{getD-words, row-number, row-dim, row-kind, row-mask, row-value, row-body, row-word}
 use Rattle.plan.specs.Plan.{mesh, LowestRow, Numbered}
 use Rattle.demands.proofs.Rows.Bodies.{vertex-body}
 use Rattle.demands.proofs.Sound.Facts.{Copied}
 use Rattle.demands.proofs.Sound.Rows.{FieldsOk, row-fields, row-wide}
 use Rattle.demands.proofs.Sound.Slots.{SlotsOk}
 use Rattle.demands.proofs.Sound.ToFit.{row-slots}
-use Rattle.rules.proofs.rows.Laws.{part-there, row-there, offset-there}
+use Rattle.rows.proofs.Laws.{part-there, row-there, offset-there}
 use Rattle.writer.specs.Rows.{sourceAt, faceAt, facesAt}
 
 -- the words of a row's body are those that stand in the image

@@ -3,11 +3,12 @@ use Prim.Native.Nat.{ℕ, _≤_, _<_}
 use native.Mathlib.Omega.{arith}
 use mathlib.Core.List.{List}
 use lib.ListN.{length, replicate, length-replicate}
-use Rattle.rules.proofs.covered.Marks.{zeros-at}
-use Rattle.slots.specs.Slots.{total, tab, mostRows, SlotsAsked, SlotsFilled, StartsFilled, ListsAsked, ListsFilled}
+use Rattle.laws.specs.Lists.{total}
+use Rattle.residence.proofs.covered.Marks.{zeros-at}
+use Rattle.slots.specs.Slots.{tab, mostRows, SlotsAsked, SlotsFilled, StartsFilled, ListsAsked, ListsFilled}
 use Rattle.slots.proofs.Joined.{starts-asked, lists-asked}
 use Rattle.plan.specs.Plan.{Prepared}
-use Rattle.output.proofs.Filled.{Filled, filled}
+use Rattle.output.proofs.TablesFilled.{TablesFilled, filled}
 use Rattle.output.proofs.Masks.{masks-inside, rows-few}
 
 -- a table of k entries before it is filled
@@ -43,5 +44,5 @@ module _ {b l offs starts ord ent masks counts : List ℕ} {n m : ℕ} (P : Prep
           (omega (arith, rows-few P, length-replicate {A = ℕ} 21846 0))
 
       -- and what all of them leave
-      pub all-filled : {members : List ℕ} → ListsFilled (tab masks) m begins (zeros 21846) members → Filled masks base slots members begins n m
+      pub all-filled : {members : List ℕ} → ListsFilled (tab masks) m begins (zeros 21846) members → TablesFilled masks base slots members begins n m
       all-filled h = filled slots-wanted f lists-wanted h

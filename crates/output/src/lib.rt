@@ -70,11 +70,11 @@ pub fn write(
     requires { ⌜ length (newImage (now image) (now list)) ≤ length (now out) ⌝ }
     ensures { λ _. ⌜ now (out .exit) ≡ newImage (now (image .entry)) (now (list .entry)) ++ drop (length (newImage (now (image .entry)) (now (list .entry)))) (now (out .entry)) ⌝ }
 {
-    let mut base = [0u32; 21846];
-    let mut slots = [0u32; 21846];
-    let mut rows = [0u32; 64];
-    let mut begins = [0u32; 65];
-    let mut members = [0u32; 21846];
+    let mut base = [0u32; paper::ROW_ENTRIES];
+    let mut slots = [0u32; paper::ROW_ENTRIES];
+    let mut rows = [0u32; paper::PARTS];
+    let mut begins = [0u32; paper::PART_ENTRIES];
+    let mut members = [0u32; paper::ROW_ENTRIES];
     slots::fill_slots(masks, entities, &mut base, &mut slots, &mut rows);
     slots::part_starts(&rows, n as usize, &mut begins);
     slots::fill_lists(masks, entities, n, &slots, &begins, &mut members);

@@ -21,7 +21,8 @@ use Rattle.paper.specs.declared.BoxAnswer.{BoxAnswer}
 use Rattle.paper.specs.declared.BoxAnswer.the-variants as box
 use Rattle.paper.specs.Outcome.{Outcome, refused}
 use Rattle.paper.specs.Sound.{valueFits}
-use Rattle.paper.specs.Answers.{placeOf, valueOf, sameValue, checkAnswer, migrateAnswer, lookupAnswer, boxAnswer}
+use Rattle.paper.specs.Answers.{valueOf, sameValue, checkAnswer, migrateAnswer, lookupAnswer, boxAnswer}
+use Rattle.paper.specs.Outcome.{placeOf}
 use Rattle.paper.proofs.Outcomes.{accepted-inj}
 use Rattle.laws.proofs.Tests.{T-true}
 use Rattle.field.specs.Bytes.{finite}

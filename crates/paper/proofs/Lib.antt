@@ -3,10 +3,14 @@ pub mod Table
 pub mod Cases
 pub mod MoreCases
 pub mod OwnMeshes
-pub mod OwnCases
+pub mod OwnHeads
+pub mod OwnFields
+pub mod OwnSets
 pub mod OwnMoves
 pub mod OwnAnswers
 pub mod Outcomes
+pub mod Ranks
+pub mod Entries
 pub mod Limits
 pub mod Injective
 pub mod NameOrder

@@ -1,17 +1,21 @@
--- The limits that no computed case reaches, 1, 18, `too long` and the number of an entry: each is given exactly when the document says, its numbers written out.
+-- The limits that no computed case reaches, 1, 18 and `too long`: each is given exactly when the document says, its numbers written out.
 -- Assumes nothing.
 use Prim.Native.Nat.{ℕ, _<_, _≤_}
 use mathlib.Core.Path.{_≡_, refl, sym, ap, subst}
-use mathlib.Core.Bool.{Bool, true, false, not, cond}
+use mathlib.Core.Bool.{Bool, true, false, not}
 use mathlib.Core.List.{List, [], _∷_}
 use mathlib.Core.Option.{Option, none, some}
 use lib.ListN.{length}
 use lib.Dec.{T, eqb, leb, leb→le}
 use borrow.Author.Tests.{lt-ltb, le-ltb, lt-leb, leb-false, eq-eqb}
-use Rattle.paper.specs.Outcome.{Outcome, Place, refused, accepted, nowhere, _>>=_, _>>_, must, get, unless}
+use Rattle.paper.specs.Outcome.{Outcome, Place, refused, accepted, nowhere, _>>=_, _>>_, must, get, unless, inTurn}
 use Rattle.paper.specs.Image.{Set}
-use Rattle.paper.specs.Sound.{soundOf, checkOf, rowsMust}
-use Rattle.paper.specs.Move.{entryPlace, entriesMust, Migrated, migrated, sizeSet}
+use Rattle.paper.specs.declared.Rule.{Rule}
+use Rattle.paper.specs.declared.Rule.the-variants.{Fields, Order, Boundary, Copies, Residence, Owner}
+use Rattle.paper.specs.declared.EntryRule.{EntryRule}
+use Rattle.paper.specs.declared.EntryRule.the-variants.{Whole, Destination, Known, Object}
+use Rattle.paper.specs.Sound.{rules, numberOf, decode, rulesOf, soundOf, checkOf, rowsMust}
+use Rattle.paper.specs.Move.{entryRules, entryNumber, entriesMust, Migrated, migrated, sizeSet}
 use Rattle.paper.specs.Listing.{answerText, listingOf}
 use Rattle.paper.proofs.Outcomes.{not-refused, accepted-inj, then-inv, must-inv}
 use Rattle.paper.proofs.Table.{text}
@@ -40,14 +44,6 @@ unfolding unless
 never-unless k j none h = record { never = λ p e. not-refused (sym e) }
 never-unless k j (some q) h = record { never = λ p e. not-equal j k h (ap number e) }
 
-never-rows : (k j : ℕ) (S : Set) (ok : ℕ → ℕ → Bool) → T (not (eqb j k)) → Never k (rowsMust j S ok)
-unfolding rowsMust
-never-rows k j S ok h = never-unless k j _ h
-
-never-entries : (k j : ℕ) (l : List ℕ) (ok : ℕ → Bool) → T (not (eqb j k)) → Never k (entriesMust j l ok)
-unfolding entriesMust
-never-entries k j l ok h = never-unless k j _ h
-
 module _ {A : Type 0} where
   never-accepted : {k : ℕ} {a : A} → Never k (accepted a)
   never-accepted = record { never = λ p e. not-refused (sym e) }
@@ -74,11 +70,45 @@ module _ {A B : Type 0} where
   then-rest k (refused j q) n p first e = absurd (first .never p (cc))
   then-rest k (accepted a) n p first e = e
 
+  -- the second check has another number, so the first gave this one
+  bind-rest : (m : Outcome A) (f : A → Outcome B) (k : ℕ) (p : Place) → ((a : A) → Never k (f a)) → (m >>= f) ≡ refused k p → m ≡ refused k p
+  unfolding _>>=_
+  bind-rest (refused j q) f k p second e = cc
+  bind-rest (accepted a) f k p second e = absurd (second a .never p e)
+
   -- what only changes an accepted value refuses as before
   bind-refused : (m : Outcome A) (f : A → B) (k : ℕ) (p : Place) → (m >>= λ a. accepted (f a)) ≡ refused k p → m ≡ refused k p
   unfolding _>>=_
   bind-refused (refused j q) f k p e = cc
   bind-refused (accepted a) f k p e = absurd (not-refused (sym e))
+
+never-turn : {R : Type 0} (k : ℕ) (check : R → Outcome (Unit {0})) → ((r : R) → Never k (check r)) → (rs : List R) → Never k (inTurn check rs)
+unfolding inTurn
+never-turn k check each [] = never-accepted
+never-turn k check each (r ∷ rs) = never-then (each r) (never-turn k check each rs)
+
+-- the rules give their own numbers
+never-rule : (k : ℕ) (S : Set) → ((rule : Rule) → T (not (eqb (numberOf rule) k))) → Never k (inTurn (rowsMust S) rules)
+unfolding rowsMust
+never-rule k S other = never-turn k (rowsMust S) (λ rule. never-unless k (numberOf rule) _ (other rule)) rules
+
+never-entry : (k : ℕ) (S : Set) (l : List ℕ) → ((rule : EntryRule) → T (not (eqb (entryNumber rule) k))) → Never k (inTurn (entriesMust S l) entryRules)
+unfolding entriesMust
+never-entry k S l other = never-turn k (entriesMust S l) (λ rule. never-unless k (entryNumber rule) _ (other rule)) entryRules
+
+not-1 : (rule : Rule) → T (not (eqb (numberOf rule) 1))
+not-1 Fields = tt
+not-1 Order = tt
+not-1 Boundary = tt
+not-1 Copies = tt
+not-1 Residence = tt
+not-1 Owner = tt
+
+not-18 : (rule : EntryRule) → T (not (eqb (entryNumber rule) 18))
+not-18 Whole = tt
+not-18 Destination = tt
+not-18 Known = tt
+not-18 Object = tt
 
 -- the rest never gives this number, so the check failed
 must-own : {A : Type 0} (k : ℕ) (t : Bool) (n : Outcome A) (p : Place) → Never k n → (must k t >> n) ≡ refused k p → t ≡ false
@@ -89,35 +119,19 @@ must-own k false n p rest e = refl
 -- ---- 1: an image over 1,048,576 bytes
 
 pub check-large : (b : List ℕ) → 1048576 < length b → checkOf b ≡ refused 1 nowhere
-unfolding checkOf soundOf must _>>_ _>>=_
+unfolding checkOf soundOf decode must _>>_ _>>=_
 check-large b h = rw (lt-leb (length b) 1048576 h)
 
 pub check-large-only : (b : List ℕ) (p : Place) → checkOf b ≡ refused 1 p → 1048576 < length b
-unfolding checkOf soundOf
+unfolding checkOf soundOf decode rulesOf
 check-large-only b p e =
     leb-false (length b) 1048576
     (must-own 1 (leb (length b) 1048576) _ p
     (never-then (never-must 1 2 _ tt)
     (never-then (never-must 1 3 _ tt)
     (never-then (never-must 1 4 _ tt)
-    (never-then (never-must 1 5 _ tt)
-    (never-bind (never-get 1 6 _ tt) (λ S.
-    never-then (never-rows 1 7 _ _ tt)
-    (never-then (never-rows 1 8 _ _ tt)
-    (never-then (never-rows 1 9 _ _ tt)
-    (never-then (never-rows 1 10 _ _ tt)
-    (never-then (never-rows 1 11 _ _ tt)
-    (never-then (never-rows 1 12 _ _ tt) never-accepted)))))))))))
-    (bind-refused (soundOf b) _ 1 p e))
-
--- ---- 13 to 16: the number of an entry
-
--- below 4,294,967,296 it is given as it is, and from there on as the last of these
-pub entry-low : (i : ℕ) → i < 4294967296 → entryPlace i ≡ record { major = i; minor = 0 }
-entry-low i h = ap (λ (t : Bool). record { major = cond t i 4294967295; minor = 0 }) (lt-ltb i 4294967296 h)
-
-pub entry-high : (i : ℕ) → 4294967296 ≤ i → entryPlace i ≡ record { major = 4294967295; minor = 0 }
-entry-high i h = ap (λ (t : Bool). record { major = cond t i 4294967295; minor = 0 }) (le-ltb i 4294967296 h)
+    (never-then (never-must 1 5 _ tt) (never-get 1 6 _ tt)))))
+    (bind-rest (decode b) rulesOf 1 p (λ S. never-then (never-rule 1 S not-1) never-accepted) (bind-refused (soundOf b) _ 1 p e)))
 
 -- ---- 18: a result over 1,048,576 bytes
 
@@ -125,10 +139,7 @@ entry-high i h = ap (λ (t : Bool). record { major = cond t i 4294967295; minor 
 pub size-accepted : (S : Set) (l : List ℕ) (work : ℕ) (m : Migrated) → sizeSet S l work ≡ accepted m → length (m .image) ≤ 1048576
 unfolding sizeSet
 size-accepted S l work m e =
-    let e14 = then-inv _ _ m e .2 in
-    let e15 = then-inv _ _ m e14 .2 in
-    let e16 = then-inv _ _ m e15 .2 in
-    let e17 = then-inv _ _ m e16 .2 in
+    let e17 = then-inv _ _ m e .2 in
     let e18 = then-inv _ _ m e17 .2 in
     let t = then-inv _ _ m e18 in
     let is : migrated S l ≡ m = accepted-inj (t .2) in
@@ -138,10 +149,7 @@ size-accepted S l work m e =
 pub size-large-only : (S : Set) (l : List ℕ) (work : ℕ) (p : Place) → sizeSet S l work ≡ refused 18 p → 1048576 < length (migrated S l .image)
 unfolding sizeSet
 size-large-only S l work p e =
-    let e14 = then-rest 18 _ _ p (never-entries 18 13 _ _ tt) e in
-    let e15 = then-rest 18 _ _ p (never-entries 18 14 _ _ tt) e14 in
-    let e16 = then-rest 18 _ _ p (never-entries 18 15 _ _ tt) e15 in
-    let e17 = then-rest 18 _ _ p (never-entries 18 16 _ _ tt) e16 in
+    let e17 = then-rest 18 _ _ p (never-entry 18 S l not-18) e in
     let e18 = then-rest 18 _ _ p (never-must 18 17 _ tt) e17 in
     leb-false (length (migrated S l .image)) 1048576 (must-own 18 _ _ p never-accepted e18)
 

@@ -4,10 +4,11 @@ use mathlib.Core.Path.{_≡_, refl}
 use mathlib.Core.List.{[], _∷_}
 use lib.Ieee.{toBits}
 use lib.ListN.{set}
+use Rattle.decimal.specs.Decimal.{decimal}
 use Rattle.paper.specs.Move
 use Rattle.paper.specs.Box
 use Rattle.paper.specs.Listing
-use Rattle.paper.specs.Listing.{decimal, listingOf}
+use Rattle.paper.specs.Listing.{listingOf}
 use Rattle.paper.specs.Move.{migrateOf}
 use Rattle.paper.proofs.Meshes.{one, A, B}
 use Rattle.paper.proofs.Table.{Cases, wrong, check, send, move, numbers, image, box, ascii, text}

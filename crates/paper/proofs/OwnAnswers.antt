@@ -9,7 +9,7 @@ use Rattle.paper.specs.declared.CheckAnswer.the-variants as check
 use Rattle.paper.specs.declared.MigrateAnswer.the-variants as migrate
 use Rattle.paper.specs.declared.LookupAnswer.the-variants as lookup
 use Rattle.paper.specs.declared.BoxAnswer.the-variants as box
-use Rattle.paper.specs.Outcome.{answered}
+use Rattle.paper.specs.Outcome.{atRow, refusal, answered}
 use Rattle.paper.specs.Sound.{checkOf}
 use Rattle.paper.specs.Move
 use Rattle.paper.specs.Move.{migrateOf, sizesOf}
@@ -27,7 +27,7 @@ unfolding Move.computes
 check-sound = refl
 
 -- part, then slot
-pub check-refused : checkAnswer (check.Refused (record { number = 10; major = 0; minor = 1 })) ≡ checkOf (set B 108 1)
+pub check-refused : checkAnswer (check.Refused (refusal 10 (atRow 0 1))) ≡ checkOf (set B 108 1)
 unfolding Move.computes
 check-refused = refl
 
@@ -36,7 +36,7 @@ unfolding Move.computes
 migrate-moved = refl
 
 -- entry, then 0
-pub migrate-refused : migrateAnswer (migrate.Refused (record { number = 13; major = 1; minor = 0 })) ≡ answered sizesOf (migrateOf kit (send 0 5 1 ++ (0 ∷ [])) 208 4)
+pub migrate-refused : migrateAnswer (migrate.Refused (refusal 13 (atRow 1 0))) ≡ answered sizesOf (migrateOf kit (send 0 5 1 ++ (0 ∷ [])) 208 4)
 unfolding Move.computes
 migrate-refused = refl
 
@@ -44,7 +44,7 @@ pub lookup-found : lookupAnswer (lookup.Found 2 (record { 0 = 1 })) ≡ lookupOf
 unfolding Move.computes Lookup.computes
 lookup-found = refl
 
-pub lookup-refused : lookupAnswer (lookup.Refused (record { number = 7; major = 1; minor = 0 })) ≡ lookupOf (set (second (vertex 1 0 0 0)) 23 1) 0 1
+pub lookup-refused : lookupAnswer (lookup.Refused (refusal 7 (atRow 1 0))) ≡ lookupOf (set (second (vertex 1 0 0 0)) 23 1) 0 1
 unfolding Move.computes Lookup.computes
 lookup-refused = refl
 
@@ -63,7 +63,7 @@ pub box-around :
 unfolding Move.computes Box.computes
 box-around = refl
 
-pub box-refused : boxAnswer (box.Refused (record { number = 7; major = 1; minor = 0 })) ≡ boxOf (set (second (vertex 1 0 0 0)) 23 1) 0
+pub box-refused : boxAnswer (box.Refused (refusal 7 (atRow 1 0))) ≡ boxOf (set (second (vertex 1 0 0 0)) 23 1) 0
 unfolding Move.computes Box.computes
 box-refused = refl
 

@@ -9,7 +9,6 @@ use lib.Ieee.{binary64, ofBits, toBits}
 use Rattle.paper.specs.declared.Value.{Value}
 use Rattle.paper.specs.declared.Value.the-variants as value
 use Rattle.paper.specs.declared.Box.{Box}
-use Rattle.paper.specs.declared.Refusal.{Refusal}
 use Rattle.paper.specs.declared.CheckAnswer.{CheckAnswer}
 use Rattle.paper.specs.declared.CheckAnswer.the-variants as check
 use Rattle.paper.specs.declared.MigrateAnswer.{MigrateAnswer}
@@ -18,7 +17,7 @@ use Rattle.paper.specs.declared.LookupAnswer.{LookupAnswer}
 use Rattle.paper.specs.declared.LookupAnswer.the-variants as lookup
 use Rattle.paper.specs.declared.BoxAnswer.{BoxAnswer}
 use Rattle.paper.specs.declared.BoxAnswer.the-variants as box
-use Rattle.paper.specs.Outcome.{Outcome, Place, refused, accepted}
+use Rattle.paper.specs.Outcome.{Outcome, placeOf, refused, accepted}
 use Rattle.paper.specs.Sound.{Checked}
 use Rattle.paper.specs.Move.{Sizes}
 use Rattle.paper.specs.Lookup.{Found}
@@ -44,9 +43,6 @@ sameValue (value.Real x) (value.Whole n) = false
 sameValue (value.Real x) (value.Real y) = eqb (toBits binary64 x) (toBits binary64 y)
 
 -- ---- the answers
-
-abbrev pub placeOf : Refusal → Place
-placeOf r = record { major = r .major; minor = r .minor }
 
 abbrev pub checkAnswer : CheckAnswer → Outcome Checked
 checkAnswer (check.Refused r) = refused (r .number) (placeOf r)

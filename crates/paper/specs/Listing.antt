@@ -1,27 +1,18 @@
 -- The listing (document 01, "Small meshes to try", its last paragraph): the text that the listing program prints for what it has read, in
 -- bytes of ASCII. An input of more than 65,536 bytes is `too long`, whatever the bytes are. Assumes nothing.
-use Prim.Native.Nat.{ℕ, zero, suc, _+_, _/_, _%_}
+use Prim.Native.Nat.{ℕ}
 use mathlib.Core.Bool.{cond}
 use mathlib.Core.List.{List, [], _∷_, _++_, map}
 use lib.ListN.{length, getD}
 use lib.Dec.{ltb}
 use Rattle.laws.specs.Lists.{flat, upTo, zip}
 use Rattle.part_set.specs.Masks.{others}
+use Rattle.decimal.specs.Decimal
+use Rattle.decimal.specs.Decimal.{decimal}
 use Rattle.paper.specs.Outcome.{Outcome, refused, accepted}
 use Rattle.paper.specs.Image.{Row, Set, noRow}
 use Rattle.paper.specs.Sound
 use Rattle.paper.specs.Sound.{soundOf}
-
--- ---- numbers in decimal
-
--- the digits of n before those in `rest`, without leading zeros; k is at least the number of digits
-unfoldable pub digits : ℕ → ℕ → List ℕ → List ℕ
-digits zero n rest = rest
-digits (suc k) n rest = let more = digits k (n / 10) ((48 + n % 10) ∷ rest) in cond (ltb n 10) ((48 + n) ∷ rest) more
-
--- a number below 2 ^ 64 has at most 20 digits
-unfoldable pub decimal : ℕ → List ℕ
-decimal n = digits 20 n []
 
 -- ---- lines: one space stands between fields and a line feed after each line
 
@@ -77,5 +68,5 @@ listingOf b = cond (ltb maxListing (length b)) tooLong (answerText (soundOf b))
 
 -- opens this module and those below it, for what is to compute
 unfoldable pub computes : Unit {0}
-unfolding Sound.computes digits decimal joined line copyText rowLine partLines setLines headLine answerText listingOf
+unfolding Sound.computes Decimal.computes joined line copyText rowLine partLines setLines headLine answerText listingOf
 computes = tt

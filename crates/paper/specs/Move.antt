@@ -1,6 +1,6 @@
 -- Migration (document 01, "The move"): the list, what it does to the placement, the refusals 13 to 19, and both buffers afterwards.
 -- Sizing is all of it but the output: it gives 1 to 18 and the result numbers. Assumes nothing.
-use Prim.Native.Nat.{ℕ, zero, suc, _+_, _-_, _*_, _/_, _^_}
+use Prim.Native.Nat.{ℕ, zero, suc, _+_, _*_, _/_}
 use mathlib.Core.Bool.{Bool, true, not, _&&_, cond}
 use mathlib.Core.List.{List, [], _∷_, _++_}
 use mathlib.Core.Option.{Option, none, some, Option·getD}
@@ -10,7 +10,9 @@ use Rattle.paper.specs.Sound
 use Rattle.paper.specs.Placement
 use Rattle.laws.specs.Lists.{flat, upTo, firstBad}
 use Rattle.field.specs.Bytes.{u8At, u16At, u32At}
-use Rattle.paper.specs.Outcome.{Outcome, Place, refused, accepted, _>>=_, _>>_, must, unless}
+use Rattle.paper.specs.declared.EntryRule.{EntryRule}
+use Rattle.paper.specs.declared.EntryRule.the-variants.{Whole, Destination, Known, Object}
+use Rattle.paper.specs.Outcome.{Outcome, atEntry, refused, accepted, _>>=_, _>>_, must, unless, inTurn}
 use Rattle.paper.specs.Image.{Set, rowTotal}
 use Rattle.paper.specs.Mesh.{nameOf, partsOf, meshOf, isObject, holds}
 use Rattle.paper.specs.Sound.{maxImage, soundOf}
@@ -36,17 +38,41 @@ unfoldable pub ascends : List ℕ → ℕ → Bool
 ascends l zero = true
 ascends l (suc i) = ltb (entryName l i) (entryName l (suc i))
 
--- An answer has 32 bits for the number of an entry: one from 2^32 on, in a list of 32 GiB, is given as 2^32 - 1.
-abbrev pub entryPlace : ℕ → Place
-entryPlace i = record { major = cond (ltb i (2 ^ 32)) i (2 ^ 32 - 1); minor = 0 }
-
--- refusal k at the first entry that fails
-unfoldable pub entriesMust : ℕ → List ℕ → (ℕ → Bool) → Outcome (Unit {0})
-entriesMust k l ok = unless k (elim (firstBad ok (upTo (allEntries l))) [ none ↦ none | some i ↦ some (entryPlace i) ])
-
 -- whole, its two zeros zero, dimension at most 3, and after the entry before it
 unfoldable pub entryFits : List ℕ → ℕ → Bool
 entryFits l i = leb (8 * i + 8) (length l) && eqb (u16At l (8 * i + 6)) 0 && leb (u8At l (8 * i + 4)) 3 && ascends l i
+
+-- ---- the rules of a list
+
+-- entry i keeps the rule
+unfoldable pub entryJudged : EntryRule → Set → List ℕ → ℕ → Bool
+entryJudged Whole S l i = entryFits l i
+entryJudged Destination S l i = ltb (entryPart l i) (length S)
+entryJudged Known S l i = holds (flat (partsOf S)) (entryName l i)
+entryJudged Object S l i = isObject (flat (partsOf S)) (entryName l i)
+
+-- the rules in the order in which they are judged, the refusal of each, and its rank, which is its place in the list
+abbrev pub entryRules : List EntryRule
+entryRules = Whole ∷ Destination ∷ Known ∷ Object ∷ []
+
+abbrev pub entryNumber : EntryRule → ℕ
+entryNumber Whole = 13
+entryNumber Destination = 14
+entryNumber Known = 15
+entryNumber Object = 16
+
+abbrev pub entryRank : EntryRule → ℕ
+entryRank Whole = 0
+entryRank Destination = 1
+entryRank Known = 2
+entryRank Object = 3
+
+-- the rule's refusal at the first entry that breaks it
+unfoldable pub entriesMust : Set → List ℕ → EntryRule → Outcome (Unit {0})
+entriesMust S l rule =
+    unless (entryNumber rule) (elim (firstBad (entryJudged rule S l) (upTo (allEntries l))) [ none ↦ none | some i ↦ some (atEntry i) ])
+
+-- ---- what it does to the placement
 
 -- the destination that the list names for k
 unfoldable pub destOf : List ℕ → ℕ → Option ℕ
@@ -85,10 +111,7 @@ migrated S l =
 -- refusals 13 to 18, for a sound set: all entries pass one number before any is judged under the next
 unfoldable pub sizeSet : Set → List ℕ → ℕ → Outcome Migrated
 sizeSet S l work = do
-  entriesMust 13 l (entryFits l)
-  entriesMust 14 l (λ i. ltb (entryPart l i) (length S))
-  entriesMust 15 l (λ i. holds (flat (partsOf S)) (entryName l i))
-  entriesMust 16 l (λ i. isObject (flat (partsOf S)) (entryName l i))
+  inTurn (entriesMust S l) entryRules
   must 17 (leb (rowTotal S) work)
   must 18 (leb (length (migrated S l .image)) maxImage)
   accepted (migrated S l)
@@ -128,5 +151,5 @@ workAfter work = replicate (length work) 0
 
 -- opens this module and those below it, for what is to compute
 unfoldable pub computes : Unit {0}
-unfolding Sound.computes Placement.computes ascends entriesMust entryFits destOf moved changes migrated sizeSet migrateSet migrateOf sizesOf outAfter workAfter
+unfolding Sound.computes Placement.computes ascends entryFits entryJudged entriesMust destOf moved changes migrated sizeSet migrateSet migrateOf sizesOf outAfter workAfter
 computes = tt

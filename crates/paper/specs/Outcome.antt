@@ -1,9 +1,14 @@
 -- Refusals (document 01, "Refusal numbers"): an answer is a refusal with its number and place, or a value.
 -- `_>>=_` and `_>>_` stop at the first refusal, so a `do` block lists the checks in the order of the table: each is judged only when all
--- before it pass. Assumes nothing.
-use Prim.Native.Nat.{ℕ}
-use mathlib.Core.Bool.{Bool, true, false}
+-- before it pass. Places, and the refusals of the code, are made here and nowhere else. Assumes nothing.
+use Prim.Native.Nat.{ℕ, _-_, _^_}
+use mathlib.Core.Bool.{Bool, true, false, cond}
+use mathlib.Core.List.{List, [], _∷_}
 use mathlib.Core.Option.{Option, none, some}
+use lib.Dec.{ltb}
+use Rattle.paper.specs.declared.Refusal.{Refusal}
+
+-- ---- places
 
 -- a place is two numbers: part and slot, or entry and 0
 pub record Place : Type 0 where
@@ -12,6 +17,22 @@ pub record Place : Type 0 where
 
 abbrev pub nowhere : Place
 nowhere = record { major = 0; minor = 0 }
+
+abbrev pub atRow : ℕ → ℕ → Place
+atRow p s = record { major = p; minor = s }
+
+-- An answer has 32 bits for the number of an entry: one from 2^32 on, in a list of 32 GiB, is given as 2^32 - 1.
+abbrev pub atEntry : ℕ → Place
+atEntry i = record { major = cond (ltb i (2 ^ 32)) i (2 ^ 32 - 1); minor = 0 }
+
+-- the refusal of the code that has this number and place, and the place of one
+abbrev pub refusal : ℕ → Place → Refusal
+refusal k p = record { number = k; major = p .major; minor = p .minor }
+
+abbrev pub placeOf : Refusal → Place
+placeOf r = record { major = r .major; minor = r .minor }
+
+-- ---- outcomes
 
 pub data Outcome (A : Type 0) : Type 0 where
   refused : ℕ → Place → Outcome A
@@ -47,7 +68,12 @@ unfoldable pub unless : ℕ → Option Place → Outcome (Unit {0})
 unless k none = accepted tt
 unless k (some p) = refused k p
 
+-- the checks of some rules, one after the other
+unfoldable pub inTurn : {R : Type 0} → (R → Outcome (Unit {0})) → List R → Outcome (Unit {0})
+inTurn check [] = accepted tt
+inTurn check (r ∷ rs) = check r >> inTurn check rs
+
 -- opens this module, for what is to compute
 unfoldable pub computes : Unit {0}
-unfolding _>>=_ _>>_ answered must get unless
+unfolding _>>=_ _>>_ answered must get unless inTurn
 computes = tt

@@ -1,5 +1,5 @@
--- When a set is sound (document 01, under that heading): one judgement of a row for each of the refusals 7 to 12, the first fault by part
--- and then by slot, and the check, which is the refusal table from 1 to 12. Assumes nothing.
+-- When a set is sound (document 01, under that heading): the judgement of a row under each rule, the table of the rules, the first fault by
+-- part and then by slot, and the check, which is the refusal table from 1 to 12. Assumes nothing.
 use Prim.Native.Nat.{ℕ, zero, suc, _+_, _*_, _^_}
 use mathlib.Core.Bool.{Bool, true, not, _&&_, _||_}
 use mathlib.Core.List.{List, [], _∷_, map}
@@ -11,9 +11,34 @@ use Rattle.paper.specs.Mesh
 use Rattle.laws.specs.Lists.{every, some?, keep, flat, pairwise, upTo, member, indexOf, same, firstBad}
 use Rattle.field.specs.Bytes.{u8At, u16At, longs, finite}
 use Rattle.part_set.specs.Masks.{has, others, count, partsIn, maskOf}
-use Rattle.paper.specs.Outcome.{Outcome, Place, accepted, _>>=_, _>>_, must, unless, get}
+use Rattle.paper.specs.declared.Rule.{Rule}
+use Rattle.paper.specs.declared.Rule.the-variants.{Fields, Order, Boundary, Copies, Residence, Owner}
+use Rattle.paper.specs.Outcome.{Outcome, Place, atRow, accepted, _>>=_, _>>_, must, unless, get, inTurn}
 use Rattle.paper.specs.Image.{Row, Set, noRow, walkParts, rowAt, rowTotal}
 use Rattle.paper.specs.Mesh.{nameOf, sameEnt, slotsOf, shapeOf, entOf, partsOf, bounds, simplex, ownerOf}
+
+-- ---- 1 to 6: the image as a set
+
+abbrev pub maxImage : ℕ
+maxImage = 1048576
+
+-- the mark `DMP`
+unfoldable pub marked : List ℕ → Bool
+marked b = same (take 3 b) (68 ∷ 77 ∷ 80 ∷ [])
+
+-- 1 to 64 parts, and two zeros
+unfoldable pub partsCounted : List ℕ → Bool
+partsCounted b = ltb 0 (u8At b 5) && leb (u8At b 5) 64 && eqb (u16At b 6) 0
+
+-- the set that an image holds: refusals 1 to 6
+unfoldable pub decode : List ℕ → Outcome Set
+decode b = do
+  must 1 (leb (length b) maxImage)
+  must 2 (leb 8 (length b))
+  must 3 (marked b)
+  must 4 (eqb (u16At b 3) 1)
+  must 5 (partsCounted b)
+  get 6 (walkParts (u8At b 5) (drop 8 b))
 
 -- ---- 7: the fields
 
@@ -99,6 +124,38 @@ residesWell S p s = residence (length S) (rowAt S p s .mask) (rowsAbove S (nameO
 unfoldable pub ownedWell : Set → ℕ → ℕ → Bool
 ownedWell S p s = eqb (rowAt S p s .owner) (ownerOf (partsOf S) (partsIn (rowAt S p s .mask)))
 
+-- ---- the rules
+
+-- row s of part p keeps the rule
+unfoldable pub judged : Rule → Set → ℕ → ℕ → Bool
+judged Fields S p s = fieldsFit (length S) p (rowAt S p s)
+judged Order S p s = ordered (getD S p []) s
+judged Boundary S p s = boundaryStands (getD S p []) (rowAt S p s)
+judged Copies S p s = copiesAgree S p s
+judged Residence S p s = residesWell S p s
+judged Owner S p s = ownedWell S p s
+
+-- The rules in the order in which they are judged, and what a refusal under each says. A rule's rank is its place in the list, and it is the
+-- rank that orders the rules, not the number: proofs/Ranks.antt.
+abbrev pub rules : List Rule
+rules = Fields ∷ Order ∷ Boundary ∷ Copies ∷ Residence ∷ Owner ∷ []
+
+abbrev pub numberOf : Rule → ℕ
+numberOf Fields = 7
+numberOf Order = 8
+numberOf Boundary = 9
+numberOf Copies = 10
+numberOf Residence = 11
+numberOf Owner = 12
+
+abbrev pub rankOf : Rule → ℕ
+rankOf Fields = 0
+rankOf Order = 1
+rankOf Boundary = 2
+rankOf Copies = 3
+rankOf Residence = 4
+rankOf Owner = 5
+
 -- ---- the check
 
 -- the first row, by part and then by slot, that fails
@@ -106,31 +163,23 @@ unfoldable pub firstFault : (ℕ → ℕ → Bool) → ℕ → Set → Option Pl
 firstFault ok p [] = none
 firstFault ok p (rows ∷ ps) =
     let r = firstFault ok (suc p) ps in
-    elim (firstBad (ok p) (upTo (length rows))) [ none ↦ r | some s ↦ some (record { major = p; minor = s }) ]
+    elim (firstBad (ok p) (upTo (length rows))) [ none ↦ r | some s ↦ some (atRow p s) ]
 
--- refusal k at the first row that fails
-unfoldable pub rowsMust : ℕ → Set → (ℕ → ℕ → Bool) → Outcome (Unit {0})
-rowsMust k S ok = unless k (firstFault ok 0 S)
+-- the rule's refusal at the first row that breaks it
+unfoldable pub rowsMust : Set → Rule → Outcome (Unit {0})
+rowsMust S rule = unless (numberOf rule) (firstFault (judged rule S) 0 S)
 
-abbrev pub maxImage : ℕ
-maxImage = 1048576
+-- the set, if its rows keep the rules
+unfoldable pub rulesOf : Set → Outcome Set
+rulesOf S = do
+  inTurn (rowsMust S) rules
+  accepted S
 
 -- the set that an image holds, if it is sound: refusals 1 to 12
 unfoldable pub soundOf : List ℕ → Outcome Set
 soundOf b = do
-  must 1 (leb (length b) maxImage)
-  must 2 (leb 8 (length b))
-  must 3 (same (take 3 b) (68 ∷ 77 ∷ 80 ∷ []))
-  must 4 (eqb (u16At b 3) 1)
-  must 5 (ltb 0 (u8At b 5) && leb (u8At b 5) 64 && eqb (u16At b 6) 0)
-  S ← get 6 (walkParts (u8At b 5) (drop 8 b))
-  rowsMust 7 S (λ p s. fieldsFit (length S) p (rowAt S p s))
-  rowsMust 8 S (λ p s. ordered (getD S p []) s)
-  rowsMust 9 S (λ p s. boundaryStands (getD S p []) (rowAt S p s))
-  rowsMust 10 S (copiesAgree S)
-  rowsMust 11 S (residesWell S)
-  rowsMust 12 S (ownedWell S)
-  accepted S
+  S ← decode b
+  rulesOf S
 
 -- what check gives: the part count and the total of rows
 pub record Checked : Type 0 where
@@ -144,5 +193,5 @@ checkOf b = do
 
 -- opens this module and those below it, for what is to compute
 unfoldable pub computes : Unit {0}
-unfolding Outcome.computes Mesh.computes valueFits bodyFits fieldsFit ordered slotsStand boundaryStands remoteSlot twinAgrees copiesAgree rowsAbove residence residesWell ownedWell firstFault rowsMust soundOf checkOf
+unfolding Outcome.computes Mesh.computes marked partsCounted decode valueFits bodyFits fieldsFit ordered slotsStand boundaryStands remoteSlot twinAgrees copiesAgree rowsAbove residence residesWell ownedWell judged firstFault rowsMust rulesOf soundOf checkOf
 computes = tt

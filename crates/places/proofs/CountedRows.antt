@@ -3,22 +3,18 @@ use Prim.Native.Nat.{ℕ, zero, suc, _+_, _≤_, _<_}
 use native.Mathlib.Numerals.{add-one}
 use native.Mathlib.Omega.{arith}
 use mathlib.Core.Path.{_≡_, refl, sym, ap, _∙_}
-use mathlib.Core.Bool.{Bool, true, false, not, cond}
+use mathlib.Core.Bool.{Bool, not, cond}
 use mathlib.Core.Logic.{_⊎_, inl, inr}
 use mathlib.Core.List.{List}
 use lib.ListN.{length, getD, set, length-set}
 use lib.Seq.{getD-set-same, getD-set-other}
 use lib.Dec.{T, eqb, eqb→eq, T-not}
-use Rattle.laws.proofs.Tests.{decide, T-true, eq-eqb, ne-eqb}
-use Rattle.demands.proofs.ForCode.Spread.{kept-none, kept-suc}
+use Rattle.laws.proofs.Tests.{decide, T-true, eq-eqb, ne-eqb, one-at-most}
+use Rattle.laws.proofs.Totals.{kept-none, kept-suc}
 use Rattle.index.specs.Index.{maxRows}
-use Rattle.places.specs.Counting.{goes, leaves, howMany, Countable, RowCounted, RowsCounted}
+use Rattle.places.specs.Counting.{goes, leaves, howMany, ObjectsCountable, RowCounted, RowsCounted}
 
 -- ---- how many
-
-one-at-most : (b : Bool) → cond b 1 0 ≤ 1
-one-at-most true = omega arith
-one-at-most false = omega arith
 
 module _ (t : ℕ → Bool) (first : ℕ) where
   many-none : howMany t first 0 ≡ 0
@@ -57,7 +53,7 @@ module _ (covered dest counts : List ℕ) (p g : ℕ) where
           let apart : q ≡ r → ⊥ = λ s. T-not (eqb q r) t (eq-eqb q r s) in
           rw (ne-eqb q r apart) (getD-set-other counts q r (getD counts q 0 + 1) 0 (λ z. apart (sym z)) ∙ omega arith)
 
-module _ {covered dest counts : List ℕ} {g q : ℕ} (asked : Countable covered dest counts g 1) (o : getD covered g 0 ≡ 0) (e : q ≡ getD dest g 0) where
+module _ {covered dest counts : List ℕ} {g q : ℕ} (asked : ObjectsCountable covered dest counts g 1) (o : getD covered g 0 ≡ 0) (e : q ≡ getD dest g 0) where
   is-part : q < 64
   is-part = omega (arith, e, asked .to g (omega arith) (omega arith) o)
 
@@ -94,7 +90,7 @@ module _ {covered dest : List ℕ} {p first n : ℕ} {counts₀ : List ℕ} (cou
   counting-few : left ≤ s
   counting-few = omega (arith, inv .done .away, many-le (leaves covered dest p) first s)
 
-  pub counting-row : Countable covered dest counts₀ first n → s < n → Countable covered dest counts (first + s) 1
+  pub counting-row : ObjectsCountable covered dest counts₀ first n → s < n → ObjectsCountable covered dest counts (first + s) 1
   counting-row asked h = record {
     few = omega (arith, asked .few);
     room-covered = omega (arith, asked .room-covered);

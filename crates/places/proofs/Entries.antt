@@ -9,7 +9,7 @@ use borrow.Author.Count.{below-more}
 use lib.ListN.{length, getD, set, length-set}
 use lib.Seq.{getD-set-same, getD-set-other}
 use Rattle.paper.specs.Move.{entryName, entryPart, allEntries}
-use Rattle.order.specs.Runs.{keyIn}
+use Rattle.merge.specs.Runs.{keyIn}
 use Rattle.moves.specs.Catalog.{Listing, Behind, Lower}
 use Rattle.moves.proofs.Cursor.{behind-none, still-behind, place-is, found}
 use Rattle.places.specs.Sweep.{EntryAhead, EntrySent, Addressed, Sent}

@@ -11,8 +11,8 @@ use Rattle.paper.specs.Mesh.{name, entOf, partsOf, meshOf, isObject}
 use Rattle.paper.specs.Sound.{nameOfRow}
 use Rattle.paper.specs.Placement.{objects, placeIn}
 use Rattle.index.specs.Index.{setIn}
-use Rattle.rules.specs.Tables.{Covers}
-use Rattle.rules.proofs.residence.Copied.{bytes-all}
+use Rattle.residence.specs.Tables.{Covers}
+use Rattle.field.proofs.Reading.{bytes-all}
 use Rattle.plan.specs.Plan.{Sourced}
 use Rattle.demands.proofs.Mesh.Spread.{in-objects}
 use Rattle.demands.proofs.Sound.Facts.{Sound, sound-inv}

@@ -7,14 +7,14 @@ use mathlib.Core.Logic.{⊎-elim}
 use mathlib.Core.List.{List}
 use lib.ListN.{length, getD, set, length-set}
 use lib.Seq.{getD-set-same, getD-set-other}
-use Rattle.places.specs.Sweep.{Filled, Stretches, Stayed}
+use Rattle.places.specs.Sweep.{RangeFilled, Stretches, Stayed}
 
 -- ---- one value
 
 -- the first s places are filled
 pub record Filling (first n v : ℕ) (dest₀ dest : List ℕ) (s : ℕ) : Type 0 where
   pub to : s ≤ n
-  pub done : Filled first s v dest₀ dest
+  pub done : RangeFilled first s v dest₀ dest
 
 pub filling-none : (first n v : ℕ) (dest : List ℕ) → Filling first n v dest dest 0
 filling-none first n v dest = record {
@@ -37,7 +37,7 @@ module _ {first n v : ℕ} {dest₀ : List ℕ} (dest : List ℕ) (s : ℕ) (inv
         };
       }
 
-  pub filling-done : n ≤ s → Filled first n v dest₀ dest
+  pub filling-done : n ≤ s → RangeFilled first n v dest₀ dest
   filling-done h = let e : s ≡ n = omega (arith, inv .to) in rw (sym e) (inv .done)
 
 -- ---- each part its own number
@@ -70,7 +70,7 @@ module _ {starts : List ℕ} {n : ℕ} {dest₀ : List ℕ} (asked : Stretches s
     pub staying-room : first + count ≤ length dest
     staying-room = omega (arith, ends, asked .room p h, inv .same)
 
-    pub staying-more : (dest′ : List ℕ) → Filled first count p dest dest′ → Staying starts n dest₀ dest′ (p + 1)
+    pub staying-more : (dest′ : List ℕ) → RangeFilled first count p dest dest′ → Staying starts n dest₀ dest′ (p + 1)
     staying-more dest′ f = record {
       to = omega arith;
       same = f .same ∙ inv .same;

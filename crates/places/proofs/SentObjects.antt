@@ -16,22 +16,22 @@ use Rattle.paper.specs.Sound.{nameOfRow}
 use Rattle.paper.specs.Placement.{placeIn}
 use Rattle.paper.specs.Move.{entryName, entryPart, allEntries, entryFits}
 use Rattle.index.specs.Index.{setIn}
-use Rattle.order.specs.Runs.{keyIn}
-use Rattle.rules.proofs.rows.Laws.{part-room, part-there, row-there}
+use Rattle.merge.specs.Runs.{keyIn}
+use Rattle.rows.proofs.Laws.{part-room, part-there, row-there}
 use Rattle.demands.proofs.Theorems.Destinations.{moved-listed, moved-unlisted}
 use Rattle.demands.proofs.Sound.Facts.{Sound}
 use Rattle.demands.proofs.Sound.Rows.{ent, in-part, slot-is}
 use Rattle.demands.proofs.Sound.ToFit.{sound-fit}
 use Rattle.demands.proofs.Fit.ToMesh.{object-found}
-use Rattle.moves.specs.declared.EntryRule.the-variants.{Whole, Destination}
-use Rattle.moves.specs.Entries.{entryTest}
-use Rattle.moves.proofs.Judging.{passed-whole, passed-next, passed-entity}
+use Rattle.paper.specs.declared.EntryRule.the-variants.{Whole, Destination, Known}
+use Rattle.paper.specs.Move.{entryJudged}
+use Rattle.moves.proofs.Judging.{passed-whole, passed-next, passed-known}
 use Rattle.plan.specs.Plan.{placed, placing, Destined, LowestRow}
 use Rattle.places.specs.Sending.{Sendable}
 use Rattle.places.specs.Sweep.{Stretches, Stayed, Addressed, Sent}
 use Rattle.places.proofs.ObjectRows.{open-object, open-place}
 
-module _ {b l offs keys starts table ord dest : List ℕ} {n m : ℕ} (asked : Sendable b l offs keys starts table ord dest n m) where
+module _ {b l offs starts keys table ord dest : List ℕ} {n m : ℕ} (asked : Sendable b l offs starts keys table ord dest n m) where
   -- ---- what the two sweeps ask
 
   pub stretches : Stretches starts dest n
@@ -45,12 +45,12 @@ module _ {b l offs keys starts table ord dest : List ℕ} {n m : ℕ} (asked : S
       }
 
   fits : (i : ℕ) → i < allEntries l → T (entryFits l i)
-  unfolding entryTest
-  fits = asked .passed Whole (omega arith)
+  unfolding entryJudged
+  fits = asked .passed Whole
 
   part-fits : (i : ℕ) → i < allEntries l → entryPart l i < length (setIn b)
-  unfolding entryTest
-  part-fits i h = ltb→lt (entryPart l i) (length (setIn b)) (asked .passed Destination (omega arith) i h)
+  unfolding entryJudged
+  part-fits i h = ltb→lt (entryPart l i) (length (setIn b)) (asked .passed Destination i h)
 
   lowest : (j : ℕ) → j < m → LowestRow (setIn b) starts ord j
   lowest = asked .source .ordered .row
@@ -61,10 +61,10 @@ module _ {b l offs keys starts table ord dest : List ℕ} {n m : ℕ} (asked : S
       record {
         listing = asked .catalog .listing;
         room = λ j h. let w = lowest j h in omega (arith, w .is, row-there index (w .part) (w .slot) (w .there), asked .room, same);
-        whole = passed-whole (setIn b) l 17 (omega arith) (asked .passed);
+        whole = passed-whole (setIn b) l (asked .passed Whole);
         part = λ i h. omega (arith, part-fits i h, index .count, index .few);
-        up = passed-next (setIn b) l 17 (omega arith) (asked .passed);
-        there = λ i h. asked .catalog .all (entryName l i) (passed-entity (setIn b) l 17 (omega arith) (asked .passed) i h);
+        up = passed-next (setIn b) l (asked .passed Whole);
+        there = λ i h. asked .catalog .all (entryName l i) (passed-known (setIn b) l (asked .passed Known) i h);
       }
 
   -- ---- what they leave

@@ -7,24 +7,25 @@ use mathlib.Core.Bool.{Bool, true, false, not, cond, _&&_}
 use mathlib.Core.List.{List, [], map}
 use lib.ListN.{length, getD}
 use lib.Dec.{T, eqb, ltb, ltb→lt, eqb→eq}
-use Rattle.laws.specs.Lists.{In, keep, upTo}
+use Rattle.laws.specs.Lists.{In, keep, upTo, total}
 use Rattle.laws.proofs.Members.{in-map, every-in}
+use Rattle.laws.proofs.Totals.{total-none, total-suc, total-same}
 use Rattle.paper.specs.Image.{Row, noRow, rowAt}
 use Rattle.paper.specs.Mesh.{Entity, name, entOf}
 use Rattle.paper.specs.Sound.{nameOfRow}
 use Rattle.paper.specs.Placement.{objects, placesOf}
 use Rattle.index.specs.Index.{setIn, maxRows}
-use Rattle.rules.proofs.rows.Laws.{part-room, part-rows}
+use Rattle.rows.proofs.Laws.{part-room, part-rows}
 use Rattle.demands.proofs.Sound.Facts.{Sound}
 use Rattle.demands.proofs.Sound.Rows.{row, ent}
 use Rattle.demands.proofs.ForCode.Covered.{covered}
-use Rattle.demands.proofs.ForCode.Sizes.{total, total-none, total-suc, total-same, total-each}
+use Rattle.demands.proofs.ForCode.Sizes.{total-each}
 use Rattle.demands.proofs.ForCode.SpreadRows.{placedIn}
 use Rattle.demands.proofs.ForCode.Counts.{kept-total, placed-by-rows, moved-by-rows}
 use Rattle.moves.proofs.OpenRows.{row-open}
 use Rattle.plan.specs.Plan.{mesh, placing, sentTo, movedCount, Tallied}
 use Rattle.places.specs.Sending.{Tallyable}
-use Rattle.places.specs.Counting.{goes, leaves, howMany, Countable, RowsCounted}
+use Rattle.places.specs.Counting.{goes, leaves, howMany, ObjectsCountable, RowsCounted}
 use Rattle.places.proofs.CountedRows.{many-le}
 use Rattle.places.proofs.ObjectRows.{open-in}
 
@@ -75,7 +76,7 @@ module _ {b l offs starts table ord dest counts₀ : List ℕ} {n m : ℕ} (aske
       rows-fit : first + count ≤ maxRows
       rows-fit = omega (arith, ef, is-count, part-room (asked .source .indexed) p h, asked .source .indexed .total-few)
 
-      pub tallying-asked : Countable table dest counts first count
+      pub tallying-asked : ObjectsCountable table dest counts first count
       tallying-asked = record {
         few = rows-fit;
         room-covered = omega (arith, rows-fit, asked .covers .room);

@@ -21,7 +21,7 @@ abbrev pub howMany : (ℕ → Bool) → ℕ → ℕ → ℕ
 howMany t first n = length (keep (λ s. t (first + s)) (upTo n))
 
 -- the n rows from `first` on are there, each object goes to a part, and no part has more objects yet than there are rows before
-pub record Countable (covered dest counts : List ℕ) (first n : ℕ) : Type 0 where
+pub record ObjectsCountable (covered dest counts : List ℕ) (first n : ℕ) : Type 0 where
   pub few : first + n ≤ maxRows
   pub room-covered : first + n ≤ length covered
   pub room-dest : first + n ≤ length dest

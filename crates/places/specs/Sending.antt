@@ -5,18 +5,18 @@ use mathlib.Core.List.{List}
 use lib.ListN.{length, getD}
 use Rattle.paper.specs.Placement.{WellPlaced}
 use Rattle.index.specs.Index.{setIn, maxRows, Named}
-use Rattle.rules.specs.Tables.{Covers}
+use Rattle.residence.specs.Tables.{Covers}
 use Rattle.moves.specs.Catalog.{Catalog}
-use Rattle.moves.specs.Entries.{PassedBelow}
+use Rattle.demands.specs.Passed.{ListPassed}
 use Rattle.plan.specs.Plan.{mesh, placing, Sourced, Destined}
 
 -- a sound image with its tables, and a list that passes 13 to 16
-pub record Sendable (b l offs keys starts covered ord dest : List ℕ) (n m : ℕ) : Type 0 where
+pub record Sendable (b l offs starts keys covered ord dest : List ℕ) (n m : ℕ) : Type 0 where
   pub source : Sourced b offs starts ord n m
   pub named : Named b starts keys
   pub covers : Covers b starts covered
   pub catalog : Catalog (setIn b) keys ord covered m
-  pub passed : PassedBelow 17 (setIn b) l
+  pub passed : ListPassed (setIn b) l
   pub room : maxRows + 1 ≤ length dest
 
 -- the part of each object, and no object is counted yet

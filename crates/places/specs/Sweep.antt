@@ -4,13 +4,13 @@ use mathlib.Core.Path.{_≡_}
 use mathlib.Core.List.{List}
 use lib.ListN.{length, getD, set}
 use Rattle.paper.specs.Move.{entryName, entryPart, allEntries}
-use Rattle.order.specs.Runs.{keyIn}
+use Rattle.merge.specs.Runs.{keyIn}
 use Rattle.moves.specs.Catalog.{Listing, Present, Behind, Lower}
 
 -- ---- each row its own part
 
 -- v stands in the n places from `first` on, and what stands before them is as it was
-pub record Filled (first n v : ℕ) (dest dest′ : List ℕ) : Type 0 where
+pub record RangeFilled (first n v : ℕ) (dest dest′ : List ℕ) : Type 0 where
   pub same : length dest′ ≡ length dest
   pub here : (g : ℕ) → first ≤ g → g < first + n → getD dest′ g 0 ≡ v
   pub before : (g : ℕ) → g < first → getD dest′ g 0 ≡ getD dest g 0

@@ -7,13 +7,13 @@ ghost use lib.ListN.{length};
 ghost use Rattle.paper.specs.Move.{allEntries};
 ghost use Rattle.plan.specs.Plan.{movedCount, Destined, Tallied};
 ghost use Rattle.places.specs.Sending.{Sendable, Tallyable};
-ghost use Rattle.places.specs.Counting.{Countable, RowCounted, RowsCounted};
-ghost use Rattle.places.specs.Sweep.{Filled, Stretches, Stayed, EntryAhead, EntrySent, Addressed, Sent};
+ghost use Rattle.places.specs.Counting.{ObjectsCountable, RowCounted, RowsCounted};
+ghost use Rattle.places.specs.Sweep.{RangeFilled, Stretches, Stayed, EntryAhead, EntrySent, Addressed, Sent};
 
 // v in `count` places from `first` on.
 fn fill(first: usize, count: usize, v: u8, dest: &mut [u8])
     requires { ⌜ first + count ≤ length (now dest) ⌝ }
-    ensures { λ _. ⌜ Filled first count v (now (dest .entry)) (now (dest .exit)) ⌝ }
+    ensures { λ _. ⌜ RangeFilled first count v (now (dest .entry)) (now (dest .exit)) ⌝ }
 {
     let mut s = 0;
     while s < count {
@@ -29,8 +29,8 @@ fn stay(starts: &[u32], n: u32, dest: &mut [u8])
 {
     let mut p = 0;
     while p < n {
-        let first = rules::rows::row_of(starts, Part(p), Slot(0));
-        let count = rules::rows::rows_in(starts, Part(p)) as usize;
+        let first = rows::row_of(starts, Part(p), Slot(0));
+        let count = rows::rows_in(starts, Part(p)) as usize;
         fill(first, count, p as u8, dest);
         p += 1;
     }
@@ -73,7 +73,7 @@ fn send(list: &[u8], keys: &[u64], ord: &[u32], count: usize, dest: &mut [u8])
 
 // Counts row g of part p where it is an object; 1 where it leaves the part.
 fn tally_row(g: usize, p: u32, covered: &[u8], dest: &[u8], counts: &mut [u32]) -> u32
-    requires { ⌜ Countable (now covered) (now dest) (now counts) g 1 ⌝ }
+    requires { ⌜ ObjectsCountable (now covered) (now dest) (now counts) g 1 ⌝ }
     ensures { λ r. ⌜ RowCounted (now (covered .entry)) (now (dest .entry)) p g (now (counts .entry)) (now (counts .exit)) r ⌝ }
 {
     if covered[g] != 0 {
@@ -97,7 +97,7 @@ fn tally_part(
     dest: &[u8],
     counts: &mut [u32],
 ) -> u32
-    requires { ⌜ Countable (now covered) (now dest) (now counts) first count ⌝ }
+    requires { ⌜ ObjectsCountable (now covered) (now dest) (now counts) first count ⌝ }
     ensures { λ r. ⌜ RowsCounted (now (covered .entry)) (now (dest .entry)) p first count (now (counts .entry)) (now (counts .exit)) r ⌝ }
 {
     let mut s = 0;
@@ -115,15 +115,15 @@ pub fn destinations(
     image: &[u8],
     list: &[u8],
     offs: &[u32],
-    keys: &[u64],
     starts: &[u32],
+    keys: &[u64],
     covered: &[u8],
     ord: &[u32],
     n: u32,
     entities: usize,
     dest: &mut [u8],
 )
-    requires { ⌜ Sendable (now image) (now list) (now offs) (now keys) (now starts) (now covered) (now ord) (now dest) n entities ⌝ }
+    requires { ⌜ Sendable (now image) (now list) (now offs) (now starts) (now keys) (now covered) (now ord) (now dest) n entities ⌝ }
     ensures { λ _. ⌜ Destined (now (image .entry)) (now (list .entry)) (now (starts .entry)) (now (covered .entry)) (now (dest .exit)) ⌝ }
 {
     stay(starts, n, dest);
@@ -149,8 +149,8 @@ pub fn tally(
     let mut p = 0;
     let mut left: u32 = 0;
     while p < n {
-        let first = rules::rows::row_of(starts, Part(p), Slot(0));
-        let count = rules::rows::rows_in(starts, Part(p)) as usize;
+        let first = rows::row_of(starts, Part(p), Slot(0));
+        let count = rows::rows_in(starts, Part(p)) as usize;
         let some = tally_part(first, count, p, covered, dest, counts);
         left += some;
         p += 1;

@@ -10,6 +10,8 @@ use borrow.Author.Tests.{lt-ltb, le-ltb}
 use Rattle.laws.specs.Lists.{flat, firstOr, some?}
 use Rattle.laws.proofs.Tests.{split8}
 use Rattle.paper.specs.declared.Box.{Box}
+use Rattle.paper.specs.declared.LookupAnswer.{LookupAnswer}
+use Rattle.paper.specs.Promises.{LooksUp}
 use Rattle.paper.specs.Outcome.{Outcome, Place, refused, accepted, nowhere, must, _>>_, _>>=_}
 use Rattle.paper.specs.Image.{Row, Set, noRow, rowAt}
 use Rattle.part_set.specs.Masks.{has}
@@ -17,21 +19,22 @@ use Rattle.paper.specs.Mesh.{nameOf}
 use Rattle.paper.specs.Sound.{valueFits, bodyFits, fieldsFit, nameOfRow, ordered, soundOf}
 use Rattle.paper.specs.Lookup.{Found, isNamed, homeOf, lookupOf}
 use Rattle.paper.specs.Box.{boxAround, boxOf}
-use Rattle.demands.proofs.Rows.Outcomes.{bind-ok}
+use Rattle.paper.proofs.Outcomes.{bind-ok}
 use Rattle.index.specs.Index.{rowFrom, setIn, Indexed}
-use Rattle.rules.specs.declared.Rule.the-variants.{Fields, Order}
-use Rattle.rules.specs.Judged.{judged, PassedBelow}
+use Rattle.paper.specs.declared.Rule.the-variants.{Fields, Order}
+use Rattle.paper.specs.Sound.{judged}
+use Rattle.demands.specs.Passed.{AllPassed}
 use Rattle.query.specs.Vertices.{vertices}
 
 -- ---- what its rows keep
 
-pub in-order : (S : Set) → PassedBelow 13 S → (p s : ℕ) → s < length (getD S p []) → T (ordered (getD S p []) s)
+pub in-order : (S : Set) → AllPassed S → (p s : ℕ) → s < length (getD S p []) → T (ordered (getD S p []) s)
 unfolding judged
-in-order S passed = passed Order (omega arith)
+in-order S passed = passed Order
 
-fields-kept : (S : Set) → PassedBelow 13 S → (p s : ℕ) → s < length (getD S p []) → T (fieldsFit (length S) p (rowAt S p s))
+fields-kept : (S : Set) → AllPassed S → (p s : ℕ) → s < length (getD S p []) → T (fieldsFit (length S) p (rowAt S p s))
 unfolding judged
-fields-kept S passed = passed Fields (omega arith)
+fields-kept S passed = passed Fields
 
 body-kept : (n p : ℕ) (r : Row) → T (fieldsFit n p r) → T (bodyFits (r .dim) (r .body))
 unfolding fieldsFit
@@ -46,7 +49,7 @@ module _ {b offs starts : List ℕ} {n : ℕ} (ix : Indexed b offs starts n) (p 
   unfolding rowAt
   row-at = ix .row p s h ∙ ap (rowFrom b) (sym place)
 
-  pub body-at : PassedBelow 13 (setIn b) → T (bodyFits (rowFrom b at .dim) (rowFrom b at .body))
+  pub body-at : AllPassed (setIn b) → T (bodyFits (rowFrom b at .dim) (rowFrom b at .body))
   unfolding rowAt
   body-at passed =
       subst (λ (r : Row). T (bodyFits (r .dim) (r .body))) row-at (body-kept (length (setIn b)) p (getD (getD (setIn b) p []) s noRow) (fields-kept (setIn b) passed p s h))
@@ -87,3 +90,7 @@ module _ (b : List ℕ) (k : ℕ) (place : Place) (stops : soundOf b ≡ refused
   pub box-refused : (p : ℕ) → refused k place ≡ boxOf b p
   unfolding boxOf _>>=_
   box-refused p = rw stops
+
+-- the dimension as a wider number
+pub same-entity : {b : List ℕ} {d e k : ℕ} {r : LookupAnswer} → d ≡ e → LooksUp b d k r → LooksUp b e k r
+same-entity {b} {k} {r} p l = subst (λ (x : ℕ). LooksUp b x k r) p l

@@ -13,7 +13,7 @@ use Rattle.paper.specs.Sound.{bodyFits}
 use Rattle.paper.specs.Box.{pointOf}
 use Rattle.index.specs.Index.{rowFrom}
 use Rattle.index.proofs.RowFields.{getD-longs, row-long}
-use Rattle.rules.proofs.fields.Laws.{point-tests}
+use Rattle.fields.proofs.Laws.{point-tests}
 
 module _ (b : List ℕ) (o : ℕ) where
   -- coordinate i stands at 24 + 8 i of the row

@@ -1,2 +1,1 @@
-pub mod SoundIndex
 pub mod Vertices

@@ -2,13 +2,13 @@
 use index::Found;
 use paper::Box;
 use paper::BoxAnswer;
+use paper::CheckAnswer;
 use paper::LookupAnswer;
 use paper::Number;
 use paper::Part;
 use paper::Point;
 use paper::Refusal;
 use paper::Slot;
-use sound::Examined;
 ghost use Prim.Native.Nat.{_+_, _≤_};
 ghost use mathlib.Core.Path.{_≡_};
 ghost use mathlib.Core.List.{[], _∷_};
@@ -21,7 +21,7 @@ ghost use Rattle.paper.specs.Box.{pointOf};
 ghost use Rattle.paper.specs.Answers.{lookupAnswer};
 ghost use Rattle.paper.specs.Promises.{LooksUp, Bounds};
 ghost use Rattle.index.specs.Index.{rowFrom, Named};
-ghost use Rattle.query.specs.SoundIndex.{SoundIndex};
+ghost use Rattle.sound.specs.Stages.{SoundIndex};
 ghost use Rattle.query.specs.Vertices.{boxIn, vertices, further};
 // The box around the vertices so far, if there is one.
 enum Extent {
@@ -62,7 +62,7 @@ fn lookup_in(
         let found = index::find(keys, starts, Part(p), name);
         match found {
             Found::At(slot) => {
-                let at = rules::rows::offset_of(offs, starts, Part(p), slot);
+                let at = rows::offset_of(offs, starts, Part(p), slot);
                 return home_at(image, at);
             }
             Found::Absent(_) => {
@@ -70,11 +70,7 @@ fn lookup_in(
             }
         }
     }
-    LookupAnswer::Refused(Refusal {
-        number: 21,
-        major: 0,
-        minor: 0,
-    })
+    LookupAnswer::Refused(Refusal::nowhere(21))
 }
 
 // The coordinates of the vertex whose row is at `at`.
@@ -124,17 +120,13 @@ fn box_in(image: &[u8], offs: &[u32], starts: &[u32], n: u32, part: Part) -> Box
     ensures { λ r. ⌜ Bounds (now (image .entry)) (part .0) r ⌝ }
 {
     if n <= part.0 {
-        return BoxAnswer::Refused(Refusal {
-            number: 20,
-            major: 0,
-            minor: 0,
-        });
+        return BoxAnswer::Refused(Refusal::nowhere(20));
     }
-    let rows = rules::rows::rows_in(starts, part);
+    let rows = rows::rows_in(starts, part);
     let mut extent = Extent::Empty;
     let mut s = 0;
     while s < rows {
-        let at = rules::rows::offset_of(offs, starts, part, Slot(s));
+        let at = rows::offset_of(offs, starts, part, Slot(s));
         extent = with_row(extent, image, at);
         s += 1;
     }
@@ -148,28 +140,13 @@ fn box_in(image: &[u8], offs: &[u32], starts: &[u32], n: u32, part: Part) -> Box
 pub fn lookup(image: &[u8], dimension: u8, number: Number) -> LookupAnswer
     ensures { λ r. ⌜ LooksUp (now (image .entry)) dimension (number .0) r ⌝ }
 {
-    let mut offs = [0u32; 21846];
-    let mut keys = [0u64; 21846];
-    let mut starts = [0u32; 65];
-    let mut covered = [0u8; 21846];
-    let mut counts = [0u32; 64];
-    let mut ord = [0u32; 21846];
-    let examined = sound::examine(
-        image,
-        &mut offs,
-        &mut keys,
-        &mut starts,
-        &mut covered,
-        &mut counts,
-        &mut ord,
-    );
-    match examined {
-        Examined::Refused(refusal) => LookupAnswer::Refused(refusal),
-        Examined::Sound {
-            parts,
-            rows,
-            entities,
-        } => lookup_in(
+    let mut offs = [0u32; paper::ROW_ENTRIES];
+    let mut starts = [0u32; paper::PART_ENTRIES];
+    let mut keys = [0u64; paper::ROW_ENTRIES];
+    let surveyed = sound::survey(image, &mut offs, &mut starts, &mut keys);
+    match surveyed {
+        CheckAnswer::Refused(refusal) => LookupAnswer::Refused(refusal),
+        CheckAnswer::Sound { parts, rows } => lookup_in(
             image,
             &offs,
             &starts,
@@ -185,27 +162,12 @@ pub fn lookup(image: &[u8], dimension: u8, number: Number) -> LookupAnswer
 pub fn box_of(image: &[u8], part: Part) -> BoxAnswer
     ensures { λ r. ⌜ Bounds (now (image .entry)) (part .0) r ⌝ }
 {
-    let mut offs = [0u32; 21846];
-    let mut keys = [0u64; 21846];
-    let mut starts = [0u32; 65];
-    let mut covered = [0u8; 21846];
-    let mut counts = [0u32; 64];
-    let mut ord = [0u32; 21846];
-    let examined = sound::examine(
-        image,
-        &mut offs,
-        &mut keys,
-        &mut starts,
-        &mut covered,
-        &mut counts,
-        &mut ord,
-    );
-    match examined {
-        Examined::Refused(refusal) => BoxAnswer::Refused(refusal),
-        Examined::Sound {
-            parts,
-            rows,
-            entities,
-        } => box_in(image, &offs, &starts, parts, part),
+    let mut offs = [0u32; paper::ROW_ENTRIES];
+    let mut starts = [0u32; paper::PART_ENTRIES];
+    let mut keys = [0u64; paper::ROW_ENTRIES];
+    let surveyed = sound::survey(image, &mut offs, &mut starts, &mut keys);
+    match surveyed {
+        CheckAnswer::Refused(refusal) => BoxAnswer::Refused(refusal),
+        CheckAnswer::Sound { parts, rows } => box_in(image, &offs, &starts, parts, part),
     }
 }

@@ -1,5 +1,5 @@
 -- Laws of sums and slots, then those of each loop; `Joined` takes what one function leaves to what the next wants.
-pub mod Totals
+pub mod SlotLaws
 pub mod Parts
 pub mod Counting
 pub mod One

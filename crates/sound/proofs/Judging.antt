@@ -1,53 +1,97 @@
--- A rule that is known to be one of the seven, judged by its own function. Assumes nothing.
+-- A test that is known to be one of the seven, judged by its own function. Assumes nothing.
 use Prim.Native.Nat.{ℕ, _+_, _<_}
 use native.Mathlib.Omega.{arith}
-use mathlib.Core.Path.{_≡_, sym, ap, _∙_, subst}
+use mathlib.Core.Path.{_≡_, refl, sym, ap, _∙_, subst}
 use mathlib.Core.Bool.{Bool}
 use mathlib.Core.List.{List, []}
+use mathlib.Core.Option.{Option}
 use lib.ListN.{length, getD}
+use lib.Dec.{T}
+use Rattle.paper.specs.declared.Rule.{Rule}
+use Rattle.paper.specs.declared.Rule.the-variants as rule
+use Rattle.paper.specs.Outcome.{Place}
 use Rattle.paper.specs.Image.{Set}
-use Rattle.paper.specs.Sound.{fieldsFit}
+use Rattle.paper.specs.Sound.{fieldsFit, judged, firstFault}
+use Rattle.demands.specs.Passed.{Passed}
 use Rattle.index.specs.Index.{setIn, rowFrom, Indexed, Named}
-use Rattle.rules.specs.declared.Rule.{Rule}
-use Rattle.rules.specs.declared.Rule.the-variants.{Fields, Order, Boundary}
-use Rattle.rules.specs.Judged.{judged, refusalOf, PassedBefore}
-use Rattle.rules.specs.Boundary.{RowAhead}
-use Rattle.rules.specs.Copies as copies
-use Rattle.rules.proofs.residence.Copied.{index-own}
-use Rattle.rules.specs.Tables.{keyAscends}
-use Rattle.rules.proofs.fields.Laws.{fields-judged}
-use Rattle.rules.proofs.order.Laws.{keys-judged}
+use Rattle.boundary.specs.Boundary.{RowAhead}
+use Rattle.copies.specs.Copies as copies
+use Rattle.rows.proofs.Copied.{index-own}
+use Rattle.fields.specs.Order.{keyAscends}
+use Rattle.fields.proofs.Laws.{fields-judged}
+use Rattle.fields.proofs.Keys.{keys-judged}
+use Rattle.sound.specs.declared.Test.{Test}
+use Rattle.sound.specs.declared.Test.the-variants.{Fields, Order, Boundary}
+use Rattle.sound.specs.Faults.{tested, ruleFor, testOf}
 use Rattle.sound.specs.Ready.{Ready, Due}
 
-pub as-told : {rule told : Rule} (S : Set) (p s : ℕ) {r : Bool} → rule ≡ told → r ≡ judged told S p s → r ≡ judged rule S p s
-as-told S p s e j = j ∙ ap (λ (x : Rule). judged x S p s) (sym e)
+-- ---- the test for a rule is the rule's
 
-pub told-ready : {rule told : Rule} {b offs keys starts covered counts : List ℕ} {n : ℕ} → rule ≡ told → Ready rule b offs keys starts covered counts n
-    → Ready told b offs keys starts covered counts n
-told-ready {b} {offs} {keys} {starts} {covered} {counts} {n} e ready = subst (λ (x : Rule). Ready x b offs keys starts covered counts n) e ready
+tested-rule : (r : Rule) (S : Set) → tested (testOf r) S ≡ judged r S
+tested-rule rule.Fields S = refl
+tested-rule rule.Order S = refl
+tested-rule rule.Boundary S = refl
+tested-rule rule.Copies S = refl
+tested-rule rule.Residence S = refl
+tested-rule rule.Owner S = refl
 
-pub for-copies : {rule : Rule} {b offs keys starts covered counts : List ℕ} {n : ℕ} → refusalOf rule ≡ 10 → Ready rule b offs keys starts covered counts n
-    → copies.Ready b offs starts keys
-for-copies e ready = record { index = index-own (ready .indexed); names = ready .named; passed = λ before h. ready .passed before (omega (arith, e, h)) }
+rule-tested : (r : Rule) → ruleFor (testOf r) ≡ r
+rule-tested rule.Fields = refl
+rule-tested rule.Order = refl
+rule-tested rule.Boundary = refl
+rule-tested rule.Copies = refl
+rule-tested rule.Residence = refl
+rule-tested rule.Owner = refl
 
-pub for-boundary : {rule : Rule} {b offs keys starts covered counts : List ℕ} {n p s : ℕ} → rule ≡ Boundary → Ready rule b offs keys starts covered counts n → Due rule (setIn b) p s
-    → RowAhead b offs starts keys p s
-for-boundary {b} {p} {s} e ready due =
-    let below = told-ready e ready .passed in
+pub rule-ready : {r : Rule} {test : Test} {b offs starts keys covered counts : List ℕ} {n : ℕ} → test ≡ testOf r → Ready r b offs starts keys covered counts n
+    → Ready (ruleFor test) b offs starts keys covered counts n
+rule-ready {r} {b = b} {offs} {starts} {keys} {covered} {counts} {n} e ready =
+    subst (λ (x : Rule). Ready x b offs starts keys covered counts n) (sym (ap ruleFor e ∙ rule-tested r)) ready
+
+module _ (r : Rule) {test : Test} (S : Set) (e : test ≡ testOf r) where
+  rule-is : tested test S ≡ judged r S
+  rule-is = ap (λ (x : Test). tested x S) e ∙ tested-rule r S
+
+  pub rule-passes : ((p s : ℕ) → s < length (getD S p []) → T (tested test S p s)) → Passed r S
+  rule-passes pass = subst (λ (ok : ℕ → ℕ → Bool). (p s : ℕ) → s < length (getD S p []) → T (ok p s)) rule-is pass
+
+  pub rule-fault : {o : Option Place} → firstFault (tested test S) 0 S ≡ o → firstFault (judged r S) 0 S ≡ o
+  rule-fault f = ap (λ (ok : ℕ → ℕ → Bool). firstFault ok 0 S) (sym rule-is) ∙ f
+
+-- ---- a test that is known
+
+module _ {test told : Test} (e : test ≡ told) where
+  pub told-ready : {b offs starts keys covered counts : List ℕ} {n : ℕ} → Ready (ruleFor test) b offs starts keys covered counts n
+      → Ready (ruleFor told) b offs starts keys covered counts n
+  told-ready {b} {offs} {starts} {keys} {covered} {counts} {n} ready = subst (λ (x : Test). Ready (ruleFor x) b offs starts keys covered counts n) e ready
+
+  told-due : {S : Set} {p s : ℕ} → Due (tested test S) S p s → Due (tested told S) S p s
+  told-due {S} {p} {s} due = subst (λ (x : Test). Due (tested x S) S p s) e due
+
+  pub as-told : (S : Set) (p s : ℕ) {r : Bool} → r ≡ tested told S p s → r ≡ tested test S p s
+  as-told S p s j = j ∙ ap (λ (x : Test). tested x S p s) (sym e)
+
+pub for-copies : {b offs starts keys covered counts : List ℕ} {n : ℕ} → Ready rule.Copies b offs starts keys covered counts n → copies.Ready b offs starts keys
+for-copies ready = record { index = index-own (ready .indexed); names = ready .named; passed = ready .passed }
+
+pub for-boundary : {test : Test} {b offs starts keys covered counts : List ℕ} {n p s : ℕ} → test ≡ Boundary → Ready (ruleFor test) b offs starts keys covered counts n
+    → Due (tested test (setIn b)) (setIn b) p s → RowAhead b offs starts keys p s
+for-boundary e ready due =
+    let ahead = told-ready e ready .passed in
     record {
       index = index-own (ready .indexed);
       named = ready .named;
-      fields = below Fields (omega arith);
-      order = below Order (omega arith);
-      before = subst (λ (x : Rule). PassedBefore x (setIn b) p s) e (due .before);
+      fields = ahead rule.Fields (omega arith);
+      order = ahead rule.Order (omega arith);
+      before = told-due e due .before;
       here = due .there;
     }
 
-pub as-fields : {rule : Rule} {b offs starts : List ℕ} {n : ℕ} → Indexed b offs starts n → (p s : ℕ) → s < length (getD (setIn b) p []) → rule ≡ Fields
-    → {at : ℕ} {r : Bool} → at ≡ getD offs (getD starts p 0 + s) 0 → r ≡ fieldsFit n p (rowFrom b at) → r ≡ judged rule (setIn b) p s
+pub as-fields : {test : Test} {b offs starts : List ℕ} {n : ℕ} → Indexed b offs starts n → (p s : ℕ) → s < length (getD (setIn b) p []) → test ≡ Fields
+    → {at : ℕ} {r : Bool} → at ≡ getD offs (getD starts p 0 + s) 0 → r ≡ fieldsFit n p (rowFrom b at) → r ≡ tested test (setIn b) p s
 as-fields {b} {n} index p s there e {at} place j =
-    as-told (setIn b) p s e (j ∙ ap (λ (o : ℕ). fieldsFit n p (rowFrom b o)) place ∙ fields-judged index p s there)
+    as-told e (setIn b) p s (j ∙ ap (λ (o : ℕ). fieldsFit n p (rowFrom b o)) place ∙ fields-judged index p s there)
 
-pub as-order : {rule : Rule} {b starts keys : List ℕ} → Named b starts keys → (p s : ℕ) → s < length (getD (setIn b) p []) → rule ≡ Order
-    → {r : Bool} → r ≡ keyAscends keys starts p s → r ≡ judged rule (setIn b) p s
-as-order {b} named p s there e j = as-told (setIn b) p s e (j ∙ keys-judged named p s there)
+pub as-order : {test : Test} {b starts keys : List ℕ} → Named b starts keys → (p s : ℕ) → s < length (getD (setIn b) p []) → test ≡ Order
+    → {r : Bool} → r ≡ keyAscends keys starts p s → r ≡ tested test (setIn b) p s
+as-order {b} named p s there e j = as-told e (setIn b) p s (j ∙ keys-judged named p s there)

@@ -1,5 +1,5 @@
 -- The nested loops that look for the first fault, on plain values, for any set and any test `ok` of row s of part p. Assumes nothing.
-use Prim.Native.Nat.{ℕ, suc, _+_, _-_, _≤_, _<_}
+use Prim.Native.Nat.{ℕ, _+_, _-_, _≤_, _<_}
 use native.Mathlib.Nat.{not-suc-le-zero, eq-or-lt-of-le}
 use native.Mathlib.Numerals.{add-one}
 use native.Mathlib.Omega.{arith}
@@ -14,20 +14,17 @@ use lib.Dec.{T}
 use borrow.Author.Tests.{not-true, not-false}
 use Rattle.laws.specs.Lists.{from, upTo, firstBad}
 use Rattle.laws.proofs.Tests.{true-T}
-use Rattle.paper.specs.Outcome.{Place}
+use Rattle.laws.proofs.FirstBad.{sub-step}
+use Rattle.paper.specs.Outcome.{Place, atRow}
 use Rattle.paper.specs.Image.{Set}
 use Rattle.paper.specs.Sound.{firstFault}
 use Rattle.sound.specs.declared.Fault.{Fault}
 use Rattle.sound.specs.declared.Fault.the-variants.{None, At}
 use Rattle.sound.specs.Faults.{faultPlace}
 
--- a count up to n has one turn more to go before a turn than after it
-sub-step : (n i : ℕ) → i < n → n - i ≡ suc (n - suc i)
-sub-step n i h = omega arith
-
 -- the slot found in part p, or what is found behind the part
 abbrev orLater : ℕ → Option ℕ → Option Place → Option Place
-orLater p o r = elim o [ none ↦ r | some s ↦ some (record { major = p; minor = s }) ]
+orLater p o r = elim o [ none ↦ r | some s ↦ some (atRow p s) ]
 
 -- the first fault of the parts from p on, and of slot s of part p and all after it
 abbrev fromPart : (ℕ → ℕ → Bool) → Set → ℕ → Option Place

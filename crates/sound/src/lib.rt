@@ -1,21 +1,32 @@
-// The check of an image: the head and the walk, then one loop for each of the rules of the refusals 7 to 12, which finds the first row, by
-// part and then by slot, that breaks it.
+// The check of an image: the head and the walk, then the rules in their order, one loop for all of them, which finds the first row, by part
+// and then by slot, that breaks a rule.
 use index::Walked;
 use paper::CheckAnswer;
 use paper::Part;
 use paper::Refusal;
+use paper::Rule;
 use paper::Slot;
-use rules::Rule;
 ghost use mathlib.Core.Path.{_≡_};
+ghost use Rattle.paper.specs.declared.Rule.the-variants.{Boundary};
 ghost use Rattle.paper.specs.Sound.{firstFault};
 ghost use Rattle.paper.specs.Promises.{Checks};
 ghost use Rattle.index.specs.Index.{setIn};
-ghost use Rattle.rules.specs.Judged.{judged, refusalOf};
-ghost use Rattle.sound.specs.Faults.{faultPlace};
-ghost use Rattle.sound.specs.Ready.{Tabled, Ready, Due, CopiesAhead, HomesAhead, Rooms};
-ghost use Rattle.sound.specs.Stages.{ruleOf, UpTo, CopiesJudged, HomesJudged, AllJudged, Examines};
+ghost use Rattle.sound.specs.Faults.{tested, ruleFor, testOf, faultPlace};
+ghost use Rattle.sound.specs.Ready.{Tabled, Ready, Due, CopiesAhead, HomesAhead, Rooms, IndexRooms};
+ghost use Rattle.sound.specs.Stages.{UpTo, CopiesJudged, HomesJudged, AllJudged, Examines, Surveys};
 
-// The first row that breaks a rule, if one does.
+// What a row is tested for: that it keeps a rule, or, for Twins, that the copies which it names agree, which is half of the rule Copies.
+enum Test {
+    Fields,
+    Order,
+    Boundary,
+    Twins,
+    Copies,
+    Residence,
+    Owner,
+}
+
+// The first row that fails a test, if one does.
 enum Fault {
     None,
     At(Part, Slot),
@@ -43,63 +54,78 @@ pub enum Examined {
     },
 }
 
-// Does row `slot` of `part` keep the rule?
+// The test for a rule. One number in a register, as this enum is, costs the loop below nothing; an enum that holds the rule is read from memory
+// for each row.
+fn test_of(rule: Rule) -> Test
+    ensures { λ r. ⌜ r ≡ testOf rule ⌝ }
+{
+    match rule {
+        Rule::Fields => Test::Fields,
+        Rule::Order => Test::Order,
+        Rule::Boundary => Test::Boundary,
+        Rule::Copies => Test::Copies,
+        Rule::Residence => Test::Residence,
+        Rule::Owner => Test::Owner,
+    }
+}
+
+// Does row `slot` of `part` pass the test?
 fn judge(
-    rule: Rule,
+    test: Test,
     image: &[u8],
     offs: &[u32],
-    keys: &[u64],
     starts: &[u32],
+    keys: &[u64],
     covered: &[u8],
     counts: &[u32],
     n: u32,
     part: Part,
     slot: Slot,
 ) -> bool
-    requires { ⌜ Ready rule (now image) (now offs) (now keys) (now starts) (now covered) (now counts) n ⌝ }
-    requires { ⌜ Due rule (setIn (now image)) (part .0) (slot .0) ⌝ }
-    ensures { λ r. ⌜ r ≡ judged rule (setIn (now (image .entry))) (part .0) (slot .0) ⌝ }
+    requires { ⌜ Ready (ruleFor test) (now image) (now offs) (now starts) (now keys) (now covered) (now counts) n ⌝ }
+    requires { ⌜ Due (tested test (setIn (now image))) (setIn (now image)) (part .0) (slot .0) ⌝ }
+    ensures { λ r. ⌜ r ≡ tested test (setIn (now (image .entry))) (part .0) (slot .0) ⌝ }
 {
-    match rule {
-        Rule::Fields => {
-            let at = rules::rows::offset_of(offs, starts, part, slot);
-            rules::fields::fields(image, at, n, part)
+    match test {
+        Test::Fields => {
+            let at = rows::offset_of(offs, starts, part, slot);
+            fields::fields(image, at, n, part)
         }
-        Rule::Order => rules::order::order(keys, starts, part, slot),
-        Rule::Boundary => rules::boundary::boundary(image, offs, starts, keys, part, slot),
-        Rule::Twins => rules::copies::twins(image, offs, starts, keys, part, slot),
-        Rule::Copies => rules::copies::copies(image, offs, starts, keys, n, part, slot),
-        Rule::Residence => { rules::residence::residence(image, offs, starts, covered, part, slot) }
-        Rule::Owner => rules::owner::owner(image, offs, starts, counts, part, slot),
+        Test::Order => fields::order(keys, starts, part, slot),
+        Test::Boundary => boundary::boundary(image, offs, starts, keys, part, slot),
+        Test::Twins => copies::twins(image, offs, starts, keys, part, slot),
+        Test::Copies => copies::copies(image, offs, starts, keys, n, part, slot),
+        Test::Residence => { residence::residence(image, offs, starts, covered, part, slot) }
+        Test::Owner => residence::owner::owner(image, offs, starts, counts, part, slot),
     }
 }
 
-// The first row, by part and then by slot, that breaks the rule.
+// The first row, by part and then by slot, that fails the test.
 fn first_fault(
-    rule: Rule,
+    test: Test,
     image: &[u8],
     offs: &[u32],
-    keys: &[u64],
     starts: &[u32],
+    keys: &[u64],
     covered: &[u8],
     counts: &[u32],
     n: u32,
 ) -> Fault
-    requires { ⌜ Ready rule (now image) (now offs) (now keys) (now starts) (now covered) (now counts) n ⌝ }
-    ensures { λ r. ⌜ faultPlace r ≡ firstFault (judged rule (setIn (now (image .entry)))) 0 (setIn (now (image .entry))) ⌝ }
+    requires { ⌜ Ready (ruleFor test) (now image) (now offs) (now starts) (now keys) (now covered) (now counts) n ⌝ }
+    ensures { λ r. ⌜ faultPlace r ≡ firstFault (tested test (setIn (now (image .entry)))) 0 (setIn (now (image .entry))) ⌝ }
 {
     let mut fault = Fault::None;
     let mut p = 0;
     'parts: while p < n {
-        let rows = rules::rows::rows_in(starts, Part(p));
+        let rows = rows::rows_in(starts, Part(p));
         let mut s = 0;
         while s < rows {
             if !judge(
-                rule,
+                test,
                 image,
                 offs,
-                keys,
                 starts,
+                keys,
                 covered,
                 counts,
                 n,
@@ -116,71 +142,49 @@ fn first_fault(
     fault
 }
 
-// The number of the refusal that a fault under the rule is.
-fn number_of(rule: Rule) -> u32
-    ensures { λ r. ⌜ r ≡ refusalOf rule ⌝ }
-{
-    match rule {
-        Rule::Fields => 7,
-        Rule::Order => 8,
-        Rule::Boundary => 9,
-        Rule::Twins => 10,
-        Rule::Copies => 10,
-        Rule::Residence => 11,
-        Rule::Owner => 12,
-    }
-}
-
 // Judges one rule of every row, where the rules before it pass.
 fn judge_rows(
     rule: Rule,
     image: &[u8],
     offs: &[u32],
-    keys: &[u64],
     starts: &[u32],
+    keys: &[u64],
     covered: &[u8],
     counts: &[u32],
     n: u32,
 ) -> Stage
-    requires { ⌜ Ready rule (now image) (now offs) (now keys) (now starts) (now covered) (now counts) n ⌝ }
-    requires { ⌜ rule ≡ ruleOf (refusalOf rule) ⌝ }
-    ensures { λ r. ⌜ UpTo (refusalOf rule) (setIn (now (image .entry))) r ⌝ }
+    requires { ⌜ Ready rule (now image) (now offs) (now starts) (now keys) (now covered) (now counts) n ⌝ }
+    ensures { λ r. ⌜ UpTo rule (setIn (now (image .entry))) r ⌝ }
 {
-    let fault = first_fault(rule, image, offs, keys, starts, covered, counts, n);
+    let test = test_of(rule);
+    let fault = first_fault(test, image, offs, starts, keys, covered, counts, n);
     match fault {
         Fault::None => Stage::Go,
-        Fault::At(part, slot) => {
-            let number = number_of(rule);
-            Stage::Stop(Refusal {
-                number: number,
-                major: part.0,
-                minor: slot.0,
-            })
-        }
+        Fault::At(part, slot) => Stage::Stop(Refusal::at_row(rule.number(), part, slot)),
     }
 }
 
-// The rules of the refusals 7, 8 and 9: fields, order, boundary.
+// The rules that speak of one part: fields, order, boundary.
 fn shape_rules(
     image: &[u8],
     offs: &[u32],
-    keys: &[u64],
     starts: &[u32],
+    keys: &[u64],
     covered: &[u8],
     counts: &[u32],
     n: u32,
 ) -> Stage
-    requires { ⌜ Tabled (now image) (now offs) (now keys) (now starts) n ⌝ }
-    ensures { λ r. ⌜ UpTo 9 (setIn (now (image .entry))) r ⌝ }
+    requires { ⌜ Tabled (now image) (now offs) (now starts) (now keys) n ⌝ }
+    ensures { λ r. ⌜ UpTo Boundary (setIn (now (image .entry))) r ⌝ }
 {
-    let fields = judge_rows(Rule::Fields, image, offs, keys, starts, covered, counts, n);
+    let fields = judge_rows(Rule::Fields, image, offs, starts, keys, covered, counts, n);
     match fields {
         Stage::Stop(r) => {
             return Stage::Stop(r);
         }
         Stage::Go => {}
     }
-    let order = judge_rows(Rule::Order, image, offs, keys, starts, covered, counts, n);
+    let order = judge_rows(Rule::Order, image, offs, starts, keys, covered, counts, n);
     match order {
         Stage::Stop(r) => {
             return Stage::Stop(r);
@@ -191,8 +195,8 @@ fn shape_rules(
         Rule::Boundary,
         image,
         offs,
-        keys,
         starts,
+        keys,
         covered,
         counts,
         n,
@@ -204,20 +208,20 @@ fn shape_rules(
 fn copy_rule(
     image: &[u8],
     offs: &[u32],
-    keys: &[u64],
     starts: &[u32],
+    keys: &[u64],
     covered: &[u8],
     counts: &[u32],
     n: u32,
     ord: &mut [u32],
 ) -> Judged
-    requires { ⌜ CopiesAhead (now image) (now offs) (now keys) (now starts) (now ord) n ⌝ }
+    requires { ⌜ CopiesAhead (now image) (now offs) (now starts) (now keys) (now ord) n ⌝ }
     ensures { λ r. ⌜ CopiesJudged (setIn (now (image .entry))) (now (starts .entry)) (now (keys .entry)) (now (ord .exit)) n r ⌝ }
 {
-    let twins = first_fault(Rule::Twins, image, offs, keys, starts, covered, counts, n);
+    let twins = first_fault(Test::Twins, image, offs, starts, keys, covered, counts, n);
     match twins {
         Fault::At(part, slot) => {
-            let stage = judge_rows(Rule::Copies, image, offs, keys, starts, covered, counts, n);
+            let stage = judge_rows(Rule::Copies, image, offs, starts, keys, covered, counts, n);
             return Judged {
                 stage: stage,
                 entities: 0,
@@ -225,7 +229,7 @@ fn copy_rule(
         }
         Fault::None => {}
     }
-    let mut tmp = [0u32; 21846];
+    let mut tmp = [0u32; paper::ROW_ENTRIES];
     let listed = entities::entities(image, offs, starts, keys, n, ord, &mut tmp);
     let count = listed.count;
     if listed.distinct {
@@ -234,33 +238,33 @@ fn copy_rule(
             entities: count,
         };
     }
-    let stage = judge_rows(Rule::Copies, image, offs, keys, starts, covered, counts, n);
+    let stage = judge_rows(Rule::Copies, image, offs, starts, keys, covered, counts, n);
     Judged {
         stage: stage,
         entities: count,
     }
 }
 
-// The rules of the refusals 11 and 12: residence and owner, with the tables that they read.
+// The rules of residence and owner, with the tables that they read.
 fn home_rules(
     image: &[u8],
     offs: &[u32],
-    keys: &[u64],
     starts: &[u32],
+    keys: &[u64],
     n: u32,
     covered: &mut [u8],
     counts: &mut [u32],
 ) -> Stage
-    requires { ⌜ HomesAhead (now image) (now offs) (now keys) (now starts) (now covered) (now counts) n ⌝ }
-    ensures { λ r. ⌜ HomesJudged (now (image .entry)) (now (starts .entry)) (now (covered .exit)) (now (counts .exit)) r ⌝ }
+    requires { ⌜ HomesAhead (now image) (now offs) (now starts) (now keys) (now covered) (now counts) n ⌝ }
+    ensures { λ r. ⌜ HomesJudged (now (image .entry)) (now (starts .entry)) (now (covered .exit)) r ⌝ }
 {
-    rules::covered::cover(image, offs, starts, n, covered);
+    residence::covered::cover(image, offs, starts, n, covered);
     let residence = judge_rows(
         Rule::Residence,
         image,
         offs,
-        keys,
         starts,
+        keys,
         covered,
         counts,
         n,
@@ -271,26 +275,26 @@ fn home_rules(
         }
         Stage::Go => {}
     }
-    rules::owner::count_objects(starts, covered, n, counts);
-    judge_rows(Rule::Owner, image, offs, keys, starts, covered, counts, n)
+    residence::owner::count_objects(starts, covered, n, counts);
+    judge_rows(Rule::Owner, image, offs, starts, keys, covered, counts, n)
 }
 
-// The rules of the refusals 7 to 12.
+// All rules.
 fn all_rules(
     image: &[u8],
     offs: &[u32],
-    keys: &[u64],
     starts: &[u32],
+    keys: &[u64],
     n: u32,
     covered: &mut [u8],
-    counts: &mut [u32],
     ord: &mut [u32],
 ) -> Judged
-    requires { ⌜ Tabled (now image) (now offs) (now keys) (now starts) n ⌝ }
-    requires { ⌜ Rooms (now offs) (now keys) (now starts) (now covered) (now counts) (now ord) ⌝ }
-    ensures { λ r. ⌜ AllJudged (now (image .entry)) (now (starts .entry)) (now (keys .entry)) (now (covered .exit)) (now (counts .exit)) (now (ord .exit)) n r ⌝ }
+    requires { ⌜ Tabled (now image) (now offs) (now starts) (now keys) n ⌝ }
+    requires { ⌜ Rooms (now offs) (now starts) (now keys) (now covered) (now ord) ⌝ }
+    ensures { λ r. ⌜ AllJudged (now (image .entry)) (now (starts .entry)) (now (keys .entry)) (now (covered .exit)) (now (ord .exit)) n r ⌝ }
 {
-    let shape = shape_rules(image, offs, keys, starts, covered, counts, n);
+    let mut counts = [0u32; paper::PARTS];
+    let shape = shape_rules(image, offs, starts, keys, covered, &counts, n);
     match shape {
         Stage::Stop(r) => {
             return Judged {
@@ -300,7 +304,7 @@ fn all_rules(
         }
         Stage::Go => {}
     }
-    let copied = copy_rule(image, offs, keys, starts, covered, counts, n, ord);
+    let copied = copy_rule(image, offs, starts, keys, covered, &counts, n, ord);
     let count = copied.entities;
     let stage = copied.stage;
     match stage {
@@ -312,7 +316,7 @@ fn all_rules(
         }
         Stage::Go => {}
     }
-    let homes = home_rules(image, offs, keys, starts, n, covered, counts);
+    let homes = home_rules(image, offs, starts, keys, n, covered, &mut counts);
     Judged {
         stage: homes,
         entities: count,
@@ -320,37 +324,28 @@ fn all_rules(
 }
 
 // The check of an image, and its tables where it is sound: the offset and the name of every row, the first row of every part, which rows
-// are covered, the objects of every part, and the entities in the order of their names. Every public function calls this first.
+// are covered, and the entities in the order of their names. Every public function begins with this.
 pub fn examine(
     image: &[u8],
     offs: &mut [u32],
-    keys: &mut [u64],
     starts: &mut [u32],
+    keys: &mut [u64],
     covered: &mut [u8],
-    counts: &mut [u32],
     ord: &mut [u32],
 ) -> Examined
-    requires { ⌜ Rooms (now offs) (now keys) (now starts) (now covered) (now counts) (now ord) ⌝ }
-    ensures { λ r. ⌜ Examines (now (image .entry)) (now (offs .exit)) (now (keys .exit)) (now (starts .exit)) (now (covered .exit)) (now (counts .exit)) (now (ord .exit)) r ⌝ }
+    requires { ⌜ Rooms (now offs) (now starts) (now keys) (now covered) (now ord) ⌝ }
+    ensures { λ r. ⌜ Examines (now (image .entry)) (now (offs .exit)) (now (starts .exit)) (now (keys .exit)) (now (covered .exit)) (now (ord .exit)) r ⌝ }
 {
     let number = index::head(image);
     if number != 0 {
-        return Examined::Refused(Refusal {
-            number: number,
-            major: 0,
-            minor: 0,
-        });
+        return Examined::Refused(Refusal::nowhere(number));
     }
     let walked = index::walk(image, offs, starts, keys);
     let Walked::Rows(rows) = walked else {
-        return Examined::Refused(Refusal {
-            number: 6,
-            major: 0,
-            minor: 0,
-        });
+        return Examined::Refused(Refusal::nowhere(6));
     };
     let n = field::byte_at(image, 5);
-    let judged = all_rules(image, offs, keys, starts, n, covered, counts, ord);
+    let judged = all_rules(image, offs, starts, keys, n, covered, ord);
     let count = judged.entities;
     let stage = judged.stage;
     match stage {
@@ -363,26 +358,15 @@ pub fn examine(
     }
 }
 
-// Whether an image is sound: its part count and its rows, or the first refusal with its place. The tables are local: with the list that
-// the entities are merged in they take 459,542 bytes of the stack, and the call stays below 512 KiB.
-pub fn check(image: &[u8]) -> CheckAnswer
-    ensures { λ r. ⌜ Checks (now (image .entry)) r ⌝ }
+// The same for those who read no more of it than its index: the other tables are local. With the list that the entities are merged in, the
+// tables of a check take 459,542 bytes of the stack, and the call stays below 512 KiB.
+pub fn survey(image: &[u8], offs: &mut [u32], starts: &mut [u32], keys: &mut [u64]) -> CheckAnswer
+    requires { ⌜ IndexRooms (now offs) (now starts) (now keys) ⌝ }
+    ensures { λ r. ⌜ Surveys (now (image .entry)) (now (offs .exit)) (now (starts .exit)) (now (keys .exit)) r ⌝ }
 {
-    let mut offs = [0u32; 21846];
-    let mut keys = [0u64; 21846];
-    let mut starts = [0u32; 65];
-    let mut covered = [0u8; 21846];
-    let mut counts = [0u32; 64];
-    let mut ord = [0u32; 21846];
-    let examined = examine(
-        image,
-        &mut offs,
-        &mut keys,
-        &mut starts,
-        &mut covered,
-        &mut counts,
-        &mut ord,
-    );
+    let mut covered = [0u8; paper::ROW_ENTRIES];
+    let mut ord = [0u32; paper::ROW_ENTRIES];
+    let examined = examine(image, offs, starts, keys, &mut covered, &mut ord);
     match examined {
         Examined::Refused(r) => CheckAnswer::Refused(r),
         Examined::Sound {
@@ -396,4 +380,14 @@ pub fn check(image: &[u8]) -> CheckAnswer
             }
         }
     }
+}
+
+// Whether an image is sound: its part count and its rows, or the first refusal with its place.
+pub fn check(image: &[u8]) -> CheckAnswer
+    ensures { λ r. ⌜ Checks (now (image .entry)) r ⌝ }
+{
+    let mut offs = [0u32; paper::ROW_ENTRIES];
+    let mut starts = [0u32; paper::PART_ENTRIES];
+    let mut keys = [0u64; paper::ROW_ENTRIES];
+    survey(image, &mut offs, &mut starts, &mut keys)
 }

@@ -8,10 +8,10 @@ use mathlib.Core.List.{List}
 use lib.ListN.{length, getD, set, take, drop, length-map}
 use Rattle.laws.proofs.Agree.{getD-map}
 use Rattle.field.specs.Bytes.{u32At, u64At, words}
-use Rattle.field.proofs.Reading.{length-words}
+use Rattle.field.proofs.Reading.{length-words, u32-drop}
 use Rattle.field.proofs.Stores.{Storing, store-more, sets-inside, getD-run}
 use Rattle.part_set.specs.Masks.{lowestOf}
-use Rattle.index.proofs.RowFields.{u32-drop, getD-words}
+use Rattle.index.proofs.RowFields.{getD-words}
 use Rattle.writer.specs.Rows.{faceAt, facesAt}
 use Rattle.writer.specs.Written.{FacesNamed, FacesFound}
 

@@ -10,7 +10,8 @@ use Rattle.laws.specs.Lists.{flat}
 use Rattle.laws.proofs.Agree.{map-of-map}
 use Rattle.field.specs.Bytes.{bytesOf}
 use Rattle.field.proofs.Numbers.{length-bytes}
-use Rattle.field.proofs.Stores.{sets-then, length-run, getD-run}
+use Rattle.laws.proofs.Stores.{sets-then}
+use Rattle.field.proofs.Stores.{length-run, getD-run}
 use Rattle.paper.specs.Image.{Row, rowBytes, partBytes}
 use Rattle.writer.specs.Rows.{newRow, newRows}
 use Rattle.writer.specs.Written.{Put}

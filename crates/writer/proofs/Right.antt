@@ -13,7 +13,7 @@ use Rattle.laws.proofs.Ranges.{upTo-in}
 use Rattle.field.specs.Bytes.{u8At, u32At, u64At, bytesOf}
 use Rattle.part_set.specs.Masks.{has, partsIn, others}
 use Rattle.paper.specs.Mesh.{Entity, Parts, nameOf, noEnt, slotIn}
-use Rattle.rules.specs.Owners.{poorestOf}
+use Rattle.residence.specs.Owners.{poorestOf}
 use Rattle.demands.proofs.ForCode.Spread.{maskAt, slotBy}
 use Rattle.demands.proofs.ForCode.SpreadRows.{ownerBy, bodyBy, rowBy}
 use Rattle.writer.specs.Entries.{entryFrom, entryOf, remoteSlots, bodyFrom}

@@ -11,17 +11,17 @@ use lib.Dec.{T}
 use Rattle.laws.specs.Lists.{flat}
 use Rattle.field.specs.Bytes.{u8At, u32At, u64At, bytesOf}
 use Rattle.field.proofs.Numbers.{length-bytes, length-written}
-use Rattle.field.proofs.Stores.{sets-then, sets-inside, length-run}
-use Rattle.part_set.specs.Masks.{has, count, partsIn, others, rankOf}
-use Rattle.part_set.proofs.Rank.{rank-le}
+use Rattle.laws.proofs.Stores.{sets-then}
+use Rattle.field.proofs.Stores.{sets-inside, length-run}
+use Rattle.part_set.specs.Masks.{has, count, partsIn, others}
+use Rattle.part_set.proofs.Rank.{rank-lt}
 use Rattle.part_set.proofs.MaskParts.{others-count}
 use Rattle.part_set.proofs.OnePart.{has-none}
 use Rattle.paper.specs.Image.{rowBytes}
-use Rattle.rules.specs.Owners.{poorestOf}
+use Rattle.residence.specs.Owners.{poorestOf}
 use Rattle.writer.specs.Entries.{entryFrom, entryOf, remoteSlots, bodyFrom}
 use Rattle.writer.specs.Rows.{sourceAt, facesAt, newRow, RowReady}
 use Rattle.writer.specs.Written.{frontBytes, bodyAt, BodyReady}
-use Rattle.writer.proofs.Slots.{rank-lt}
 use Rattle.writer.proofs.Faces.{eachWord, each-length}
 use Rattle.writer.proofs.Gathered.{faces-length}
 
@@ -87,10 +87,6 @@ pub front-same : (n n′ d d′ o k k′ m v v′ : ℕ) → n ≡ n′ → d �
 front-same n n′ d d′ o k k′ m v v′ a b e g = cc
 
 -- ---- the whole row
-
-pub count-le : (m : ℕ) → count m ≤ 64
-unfolding count partsIn rankOf
-count-le m = rank-le m 64
 
 -- a set that has a part is not empty
 pub own-pos : (m q : ℕ) → has m q ≡ true → 0 < m

@@ -1,42 +1,22 @@
 -- The remote slots of a row, written part by part.
 -- Assumes nothing.
-use Prim.Native.Nat.{ℕ, zero, suc, _+_, _-_, _*_, _^_, _≤_, _<_}
-use native.Mathlib.Nat.{add-zero}
+use Prim.Native.Nat.{ℕ, _+_, _*_, _^_, _≤_, _<_}
 use native.Mathlib.Omega.{arith}
 use mathlib.Core.Path.{_≡_, refl, sym, ap, _∙_, subst}
-use mathlib.Core.Bool.{Bool, true, false, cond}
 use mathlib.Core.Logic.{inl, inr}
 use mathlib.Core.List.{List, [], _∷_, _++_, map}
 use lib.ListN.{length, length-map}
 use lib.Seq.{sets}
 use lib.Dec.{T}
-use Rattle.laws.specs.Lists.{In, keep, flat, upTo}
+use Rattle.laws.specs.Lists.{In, flat}
 use Rattle.field.specs.Bytes.{bytesOf}
 use Rattle.field.proofs.Numbers.{length-bytes, length-written}
-use Rattle.part_set.specs.Masks.{has, count, partsIn, others, lowestOf, rankOf, Rest}
+use Rattle.part_set.specs.Masks.{has, partsIn, others, lowestOf, rankOf, Rest}
 use Rattle.part_set.proofs.MaskParts.{others-in, others-count}
 use Rattle.part_set.proofs.Walk.{parts-none, rest-is}
-use Rattle.demands.proofs.ForCode.Spread.{kept-suc}
+use Rattle.part_set.proofs.Rank.{rank-lt}
 use Rattle.writer.specs.Entries.{entryFrom, remoteSlots, RemoteRoom}
 use Rattle.writer.proofs.Writing.{Writing, write-none, write-more, write-done}
-
--- ---- a part of a set has its rank below the set's count
-
-kept-grows : (t : ℕ → Bool) (n k : ℕ) → length (keep t (upTo n)) ≤ length (keep t (upTo (n + k)))
-kept-grows t n zero = omega (arith, ap (λ (x : ℕ). length (keep t (upTo x))) (add-zero n))
-kept-grows t n (suc k) =
-    let e : n + suc k ≡ suc (n + k) = omega arith in
-    omega (arith, ap (λ (x : ℕ). length (keep t (upTo x))) e, kept-suc t (n + k), kept-grows t n k)
-
-kept-one : (b : Bool) → T b → cond {A = ℕ} b 1 0 ≡ 1
-kept-one true t = refl
-kept-one false t = absurd t
-
-pub rank-lt : (m p : ℕ) → p < 64 → T (has m p) → rankOf m p < count m
-unfolding rankOf count partsIn
-rank-lt m p h t =
-    let e : suc p + (64 - suc p) ≡ 64 = omega arith in
-    omega (arith, kept-suc (has m) p, kept-one (has m p) t, kept-grows (has m) (suc p) (64 - suc p), ap (λ (x : ℕ). length (keep (has m) (upTo x))) e)
 
 -- ---- the loop over the other parts
 

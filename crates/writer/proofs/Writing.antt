@@ -6,7 +6,7 @@ use mathlib.Core.Path.{_≡_, refl, sym, ap, _∙_}
 use mathlib.Core.List.{List, [], _++_}
 use lib.ListN.{length, length-append}
 use lib.Seq.{sets, length-sets}
-use Rattle.field.proofs.Stores.{sets-append}
+use Rattle.laws.proofs.Stores.{sets-append}
 
 -- `rest` is left to write from `to` on, so that `all` stands from `at` on
 pub record Writing (start : List ℕ) (at : ℕ) (all out : List ℕ) (to : ℕ) (rest : List ℕ) : Type 0 where

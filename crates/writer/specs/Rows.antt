@@ -9,7 +9,7 @@ use lib.ListN.{length, getD, take, drop}
 use Rattle.field.specs.Bytes.{u8At, u32At, u64At, words}
 use Rattle.part_set.specs.Masks.{has, count, partsIn, lowestOf}
 use Rattle.paper.specs.Image.{Row, partBytes}
-use Rattle.rules.specs.Owners.{poorestOf}
+use Rattle.residence.specs.Owners.{poorestOf}
 use Rattle.writer.specs.Entries.{entryOf, Entered, remoteSlots, bodyFrom}
 
 -- where the source row of entity i begins

@@ -195,7 +195,7 @@ fn build_row(
     let from = offs[source] as usize;
     let first = base[i] as usize;
     let mask = masks[i];
-    let owner = rules::owner::owner_of(mask, counts);
+    let owner = residence::owner::owner_of(mask, counts);
     put_source(image, from, owner, mask, row);
     build_body(image, from, starts, ent, masks, base, slots, q, row);
     put_slots(slots, first, mask, q, row, 48);
@@ -221,7 +221,7 @@ fn put_row(
     requires { ⌜ at + length (rowBytes (newRow (now image) (now offs) (now starts) (now ord) (now ent) (now counts) (now masks) (now base) (now slots) q i)) ≤ length (now out) ⌝ }
     ensures { λ r. ⌜ Put (rowBytes (newRow (now (image .entry)) (now (offs .entry)) (now (starts .entry)) (now (ord .entry)) (now (ent .entry)) (now (counts .entry)) (now (masks .entry)) (now (base .entry)) (now (slots .entry)) q i)) (now (out .entry)) (now (out .exit)) at r ⌝ }
 {
-    let mut row = [0u8; 300];
+    let mut row = [0u8; paper::ROW_BYTES];
     build_row(
         image,
         offs,

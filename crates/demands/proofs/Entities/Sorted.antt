@@ -7,8 +7,8 @@ use mathlib.Core.Bool.{Bool, true, false, cond, not}
 use mathlib.Core.Logic.{_⊎_, inl, inr}
 use mathlib.Core.List.{List, [], _∷_, map}
 use lib.Dec.{T, ltb, eqb, ltb→lt, nltb→le, eqb→eq, eqb-refl}
-use Rattle.laws.specs.Lists.{In, pairwise, ascending}
-use Rattle.paper.specs.Mesh.{Entity, name, insertEnt, sortEnts}
+use Rattle.laws.specs.Lists.{In, pairwise, ascending, flat}
+use Rattle.paper.specs.Mesh.{Entity, name, insertEnt, sortEnts, Parts, meshOf}
 use Rattle.laws.proofs.Keyed.{head-below, tail-ascends, cons-ascends}
 use Rattle.demands.proofs.Entities.Names.{Uniq}
 
@@ -101,3 +101,7 @@ pub sort-ascends : (es : List Entity) → T (ascending (map name (sortEnts es)))
 unfolding sortEnts ascending pairwise
 sort-ascends [] = tt
 sort-ascends (e ∷ es) = insert-ascends e (sortEnts es) (sort-ascends es)
+
+pub mesh-ascends : (ps : Parts) → T (ascending (map name (meshOf ps)))
+unfolding meshOf
+mesh-ascends ps = sort-ascends (flat ps)

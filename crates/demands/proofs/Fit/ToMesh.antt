@@ -15,7 +15,7 @@ use Rattle.laws.proofs.Tests.{both}
 use Rattle.laws.proofs.Keyed.{ascending-ext, ascends-uniq, keep-ascends}
 use Rattle.laws.proofs.Members.{in-flat, flat-in, in-every, map-in, part-lt}
 use Rattle.demands.proofs.Entities.Names.{Uniq, in-holds, object-same}
-use Rattle.demands.proofs.Entities.Sorted.{sort-in, in-sort, sort-ascends}
+use Rattle.demands.proofs.Entities.Sorted.{sort-in, in-sort, mesh-ascends}
 use Rattle.demands.proofs.Entities.Closed.{Closed}
 use Rattle.demands.proofs.Entities.Fits.{EntOk, fits-of, fits-closed, ok-up}
 use Rattle.demands.proofs.Entities.Closures.{closure-part, in-closure}
@@ -32,12 +32,8 @@ module _ (ps : Parts) (F : Fit ps) where
   unfolding meshOf
   mesh-in e i = flat-in ps e (sort-in (flat ps) e i)
 
-  mesh-ascends : T (ascending (map name (meshOf ps)))
-  unfolding meshOf
-  mesh-ascends = sort-ascends (flat ps)
-
   mesh-uniq : Uniq (meshOf ps)
-  mesh-uniq = ascends-uniq name (meshOf ps) mesh-ascends
+  mesh-uniq = ascends-uniq name (meshOf ps) (mesh-ascends ps)
 
   mesh-ok : (e : Entity) → In e (meshOf ps) → EntOk (meshOf ps) e
   mesh-ok e i =
@@ -85,7 +81,7 @@ module _ (ps : Parts) (F : Fit ps) where
       ext-getD [] ps (spread (length ps) (meshOf ps) (placeIn ps)) (sym (spread-length (length ps) (meshOf ps) (placeIn ps))) (λ p h.
       ascending-ext name (getD ps p []) (getD (spread (length ps) (meshOf ps) (placeIn ps)) p []) (F .ascends p)
       (subst (λ (l : List Entity). T (ascending (map name l))) (sym (spread-part (length ps) (meshOf ps) (placeIn ps) p h))
-      (keep-ascends name (λ e. member (name e) (closures (meshOf ps) (placeIn ps) p)) (meshOf ps) mesh-ascends))
+      (keep-ascends name (λ e. member (name e) (closures (meshOf ps) (placeIn ps) p)) (meshOf ps) (mesh-ascends ps)))
       (λ e i. in-spread (length ps) (meshOf ps) (placeIn ps) p e h (in-mesh p e i) (under p e i))
       (λ e i. let w = spread-in (length ps) (meshOf ps) (placeIn ps) p e i in no-more p e h (w .1) (w .2)))
 
@@ -95,7 +91,7 @@ module _ (ps : Parts) (F : Fit ps) where
       record {
         some-part = lt→ltb 0 (length ps) (F .some-part);
         few-parts = le→leb (length ps) 64 (F .few-parts);
-        mesh = both (ascending (map name (meshOf ps))) (every (entFits (meshOf ps)) (meshOf ps)) mesh-ascends
+        mesh = both (ascending (map name (meshOf ps))) (every (entFits (meshOf ps)) (meshOf ps)) (mesh-ascends ps)
             (in-every (entFits (meshOf ps)) (meshOf ps) (λ e i. fits-of (meshOf ps) e (mesh-ok e i)));
         placed = in-every (λ q. ltb q (length ps)) (map (λ e. placeIn ps (name e)) (objects (meshOf ps))) (λ q i.
             let w = map-in (λ e. placeIn ps (name e)) (objects (meshOf ps)) q i in

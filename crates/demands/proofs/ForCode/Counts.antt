@@ -10,7 +10,7 @@ use mathlib.Core.Bool.{Bool, true, false, not, cond, _&&_}
 use mathlib.Core.List.{List, [], _∷_, map}
 use lib.ListN.{length, getD, length-map}
 use lib.Dec.{T, eqb}
-use Rattle.laws.specs.Lists.{In, keep, flat, upTo}
+use Rattle.laws.specs.Lists.{In, keep, flat, upTo, total}
 use Rattle.part_set.specs.Masks.{has, partsIn, count}
 use Rattle.paper.specs.Image.{Row, Set, noRow}
 use Rattle.paper.specs.Mesh.{Entity, Parts, name, noEnt, entOf, partsOf, meshOf, isObject}
@@ -21,6 +21,7 @@ use Rattle.laws.proofs.Tests.{and-l}
 use Rattle.laws.proofs.Members.{in-getD}
 use Rattle.laws.proofs.Agree.{keep-agree, keep-of-map}
 use Rattle.laws.proofs.Ascending.{one-only}
+use Rattle.laws.proofs.Totals.{total-same, total-zero}
 use Rattle.part_set.proofs.MaskParts.{has-lt, partsIn-in, in-partsIn, partsIn-ascends}
 use Rattle.part_set.proofs.Walk.{count-parts}
 use Rattle.demands.proofs.Mesh.ToFit.{spread-fit, spread-mesh}
@@ -30,7 +31,7 @@ use Rattle.demands.proofs.Sound.ToFit.{sound-fit}
 use Rattle.demands.proofs.Fit.ToMesh.{mesh-object, object-found, is-spread, well-placed}
 use Rattle.demands.proofs.ForCode.Covered.{covered}
 use Rattle.demands.proofs.ForCode.Spread.{maskAt, keep-read, part-by-masks, mask-lt, mask-some, few-parts}
-use Rattle.demands.proofs.ForCode.Sizes.{total, total-same, total-zero, total-swap, total-each, total-parts}
+use Rattle.demands.proofs.ForCode.Sizes.{total-swap, total-each, total-parts}
 use Rattle.demands.proofs.ForCode.SpreadRows.{placedIn, has-in-part}
 use Rattle.demands.proofs.ForCode.Marks.{row-is-object}
 
@@ -120,8 +121,7 @@ module _ (n : ℕ) (es : List Entity) (place : Placement) (W : WellPlaced n es p
             ∙ total-parts n (maskAt (spread n es place) es i) 1 (few-parts n es place W) (mask-lt n es place i)
             ∙ ap (λ (k : ℕ). k * 1) (object-count i l (t tt))
         go false t =
-            total-same (λ p. cond (has (maskAt (spread n es place) es i) p && false) 1 0) (λ _. 0) n (λ p _. none (has (maskAt (spread n es place) es i) p))
-            ∙ total-zero n
+            total-zero (λ p. cond (has (maskAt (spread n es place) es i) p && false) 1 0) n (λ p. none (has (maskAt (spread n es place) es i) p))
 
     -- objects of any kind, counted part by part
     pub objects-by-parts : length (keep G (objects es)) ≡ total (λ p. length (keep (λ e. isObject es (name e) && G e) (getD (spread n es place) p []))) n

@@ -4,7 +4,6 @@
 -- Assumes nothing.
 use Prim.Native.Nat.{ℕ, zero, suc, _+_, _-_, _*_, _^_, _<_, _≤_}
 use native.Mathlib.Nat.{add-zero, mul-one, zero-mul, suc-mul}
-use native.Mathlib.Numerals.{add-one}
 use native.Mathlib.Omega.{arith}
 use mathlib.Core.Path.{_≡_, refl, sym, ap, ap₂, _∙_, subst}
 use mathlib.Core.Bool.{Bool, true, false, cond, _&&_}
@@ -12,7 +11,7 @@ use mathlib.Core.List.{List, [], _∷_, _++_, map, append-nil}
 use lib.ListN.{length, getD, replicate, length-map, length-append, length-replicate}
 use lib.Pow.{pow-mono}
 use lib.Dec.{T, eqb, ltb, eqb→eq}
-use Rattle.laws.specs.Lists.{every, keep, flat, from, upTo}
+use Rattle.laws.specs.Lists.{every, keep, flat, from, upTo, total}
 use Rattle.field.specs.Bytes.{bytesOf, finite}
 use Rattle.part_set.specs.Masks.{has, count, partsIn, others}
 use Rattle.paper.specs.Image.{Row, rowBytes, partBytes, imageOf, rowTotal}
@@ -21,6 +20,7 @@ use Rattle.paper.specs.Placement.{Placement, spread, bodyIn, rowFor, rowsFor, s
 use Rattle.laws.proofs.Tests.{split2}
 use Rattle.laws.proofs.Members.{getD-in, in-getD}
 use Rattle.laws.proofs.Agree.{map-of-map}
+use Rattle.laws.proofs.Totals.{total-same, total-add, total-zero, upTo-snoc, kept-none, kept-suc}
 use Rattle.field.proofs.Numbers.{length-bytes, length-written}
 use Rattle.part_set.proofs.MaskParts.{others-count, in-partsIn}
 use Rattle.part_set.proofs.Walk.{count-parts}
@@ -29,37 +29,10 @@ use Rattle.demands.proofs.Entities.Fits.{EntOk, faces-of}
 use Rattle.demands.proofs.Rows.Bytes.{length-each}
 use Rattle.demands.proofs.Rows.Made.{rows-part}
 use Rattle.demands.proofs.Mesh.Spread.{spread-length}
-use Rattle.demands.proofs.ForCode.Spread.{maskAt, slotBy, upTo-snoc, kept-none, kept-suc, part-by-masks, length-by-masks, mask-lt, ent-fits, few-parts}
-
--- g 0 + .. + g (n - 1)
-unfoldable pub total : (ℕ → ℕ) → ℕ → ℕ
-total g zero = 0
-total g (suc n) = total g n + g n
+use Rattle.demands.proofs.ForCode.Spread.{maskAt, slotBy, part-by-masks, length-by-masks, mask-lt, few-parts}
+use Rattle.demands.proofs.Mesh.ToFit.{ent-fits}
 
 -- ---- sums
-
-pub total-suc : (g : ℕ → ℕ) (n : ℕ) → total g (n + 1) ≡ total g n + g n
-unfolding total
-total-suc g n = rw (add-one n)
-
-pub total-none : (g : ℕ → ℕ) → total g 0 ≡ 0
-unfolding total
-total-none g = refl
-
-pub total-same : (f g : ℕ → ℕ) (n : ℕ) → ((i : ℕ) → i < n → f i ≡ g i) → total f n ≡ total g n
-unfolding total
-total-same f g zero h = refl
-total-same f g (suc n) h = ap₂ _+_ (total-same f g n (λ i l. h i (omega arith))) (h n (omega arith))
-
-total-add : (f g : ℕ → ℕ) (n : ℕ) → total (λ i. f i + g i) n ≡ total f n + total g n
-unfolding total
-total-add f g zero = refl
-total-add f g (suc n) = omega (arith, total-add f g n)
-
-pub total-zero : (n : ℕ) → total (λ _. 0) n ≡ 0
-unfolding total
-total-zero zero = refl
-total-zero (suc n) = omega (arith, total-zero n)
 
 total-fours : (n : ℕ) → total (λ _. 4) n ≡ 4 * n
 unfolding total
@@ -69,7 +42,7 @@ total-fours (suc n) = omega (arith, total-fours n)
 -- sums of sums, in either order
 pub total-swap : (g : ℕ → ℕ → ℕ) (m n : ℕ) → total (λ q. total (g q) n) m ≡ total (λ i. total (λ q. g q i) m) n
 unfolding total
-total-swap g zero n = sym (total-zero n)
+total-swap g zero n = sym (total-zero (λ _. 0) n (λ _. refl))
 total-swap g (suc m) n = ap (λ (k : ℕ). k + total (g m) n) (total-swap g m n) ∙ sym (total-add (λ i. total (λ q. g q i) m) (g m) n)
 
 -- ---- what is written for each number below n

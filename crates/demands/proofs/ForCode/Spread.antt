@@ -6,25 +6,25 @@ use Prim.Native.Nat.{ℕ, zero, suc, _+_, _^_, _<_, _≤_}
 use native.Mathlib.Nat.{not-suc-le-zero, le-of-suc-le-suc}
 use native.Mathlib.Numerals.{add-one}
 use native.Mathlib.Omega.{arith}
-use mathlib.Core.Path.{_≡_, refl, sym, ap, _∙_, subst}
+use mathlib.Core.Path.{_≡_, sym, ap, _∙_, subst}
 use mathlib.Core.Bool.{Bool, true, false, cond, _&&_}
-use mathlib.Core.List.{List, [], _∷_, _++_, map}
+use mathlib.Core.List.{List, [], _∷_, map}
 use lib.ListN.{length, getD, take, length-map}
 use lib.Seq.{ext-getD, getD-take, take-length, length-take-le}
 use lib.Dec.{T, eqb, eqb→eq, eqb-refl, leb→le}
-use Rattle.laws.specs.Lists.{In, every, some?, keep, flat, ascending, from, upTo, member, indexOf}
+use Rattle.laws.specs.Lists.{In, some?, keep, flat, ascending, upTo, member, indexOf}
 use Rattle.part_set.specs.Masks.{has}
 use Rattle.paper.specs.Mesh.{Entity, Parts, name, noEnt, closure, isObject, holds, slotIn, objectsIn}
-use Rattle.paper.specs.Placement.{Placement, objects, closures, spread, residenceIn, placeIn, placesOf, meshFits, entFits, WellPlaced}
+use Rattle.paper.specs.Placement.{Placement, objects, closures, spread, residenceIn, placeIn, placesOf, WellPlaced}
 use Rattle.laws.proofs.Tests.{T-true, ne-eqb, iff-eq, both, split2, eq-eqb}
-use Rattle.laws.proofs.Members.{every-in, keep-in, in-keep, member-in, in-member, some-in, in-some, getD-in, flat-map-in, in-flat-map}
+use Rattle.laws.proofs.Members.{keep-in, in-keep, member-in, in-member, some-in, in-some, getD-in, flat-map-in, in-flat-map}
 use Rattle.laws.proofs.Agree.{keep-agree, keep-of-map, getD-map}
 use Rattle.laws.proofs.Keyed.{head-below, tail-ascends, keep-ascends, ascending-ext}
 use Rattle.laws.proofs.Ranges.{length-upTo, getD-upTo}
+use Rattle.laws.proofs.Totals.{kept-none, kept-suc}
 use Rattle.demands.proofs.Entities.Names.{holds-in, in-holds}
-use Rattle.demands.proofs.Entities.Fits.{EntOk, ok-of}
 use Rattle.demands.proofs.Mesh.Spread.{spread-length, spread-part, spread-in}
-use Rattle.demands.proofs.Mesh.ToFit.{spread-fit, spread-mesh, spread-places}
+use Rattle.demands.proofs.Mesh.ToFit.{spread-fit, spread-mesh, spread-places, names-ascend}
 use Rattle.demands.proofs.Fit.ToMesh.{mesh-in, mesh-object}
 use Rattle.demands.proofs.Fit.Where.{object-in}
 use Rattle.part_set.proofs.OnePart.{has-none}
@@ -37,40 +37,6 @@ maskAt ps es i = residenceIn ps (name (getD es i noEnt))
 -- how many of the first i entities are in part q
 unfoldable pub slotBy : Parts → List Entity → ℕ → ℕ → ℕ
 slotBy ps es q i = length (keep (λ j. has (maskAt ps es j) q) (upTo i))
-
--- ---- the numbers below n, one more at the end
-
-from-snoc : (i n : ℕ) → from i (suc n) ≡ from i n ++ ((i + n) ∷ [])
-unfolding from
-from-snoc i zero = let e : i ≡ i + 0 = omega arith in ap (λ (k : ℕ). k ∷ []) e
-from-snoc i (suc n) =
-    let e : suc i + n ≡ i + suc n = omega arith in ap (λ (l : List ℕ). i ∷ l) (from-snoc (suc i) n ∙ ap (λ (k : ℕ). from (suc i) n ++ (k ∷ [])) e)
-
-pub upTo-snoc : (n : ℕ) → upTo (suc n) ≡ upTo n ++ (n ∷ [])
-unfolding upTo
-upTo-snoc n = let e : 0 + n ≡ n = omega arith in from-snoc 0 n ∙ ap (λ (k : ℕ). from 0 n ++ (k ∷ [])) e
-
-kept-append : (t : ℕ → Bool) (xs ys : List ℕ) → length (keep t (xs ++ ys)) ≡ length (keep t xs) + length (keep t ys)
-unfolding keep
-kept-append t [] ys = omega arith
-kept-append t (x ∷ xs) ys = go (t x) (kept-append t xs ys)
-  where
-    go : (b : Bool) → length (keep t (xs ++ ys)) ≡ length (keep t xs) + length (keep t ys)
-        → length (cond b (x ∷ keep t (xs ++ ys)) (keep t (xs ++ ys))) ≡ length (cond b (x ∷ keep t xs) (keep t xs)) + length (keep t ys)
-    go true e = omega arith
-    go false e = e
-
-pub kept-none : (t : ℕ → Bool) → length (keep t (upTo 0)) ≡ 0
-unfolding keep upTo from
-kept-none t = refl
-
-pub kept-suc : (t : ℕ → Bool) (n : ℕ) → length (keep t (upTo (suc n))) ≡ length (keep t (upTo n)) + cond (t n) 1 0
-unfolding keep
-kept-suc t n = ap (λ (l : List ℕ). length (keep t l)) (upTo-snoc n) ∙ kept-append t (upTo n) (n ∷ []) ∙ ap (λ (k : ℕ). length (keep t (upTo n)) + k) (one (t n))
-  where
-    one : (b : Bool) → length (cond b (n ∷ []) []) ≡ cond b 1 0
-    one true = refl
-    one false = refl
 
 -- a turn of a loop over the entities
 pub slotBy-none : (ps : Parts) (es : List Entity) (q : ℕ) → slotBy ps es q 0 ≡ 0
@@ -180,14 +146,6 @@ module _ (n : ℕ) (es : List Entity) (place : Placement) where
 -- ---- a mesh that fits, well placed
 
 module _ (n : ℕ) (es : List Entity) (place : Placement) (W : WellPlaced n es place) where
-  pub names-ascend : T (ascending (map name es))
-  unfolding meshFits
-  names-ascend = split2 (ascending (map name es)) (every (entFits es) es) (W .mesh) .0
-
-  pub ent-fits : (e : Entity) → In e es → EntOk es e
-  unfolding meshFits
-  ent-fits e i = ok-of es e (every-in (entFits es) es (split2 (ascending (map name es)) (every (entFits es) es) (W .mesh) .1) e i)
-
   pub few-parts : n ≤ 64
   few-parts = leb→le n 64 (W .few-parts)
 
@@ -206,7 +164,7 @@ module _ (n : ℕ) (es : List Entity) (place : Placement) (W : WellPlaced n es p
 
   pub slot-of : (q i : ℕ) → q < n → i < length es → T (has (maskAt (spread n es place) es i) q)
       → slotIn (getD (spread n es place) q []) (name (getD es i noEnt)) ≡ slotBy (spread n es place) es q i
-  slot-of = slot-by-masks n es place names-ascend
+  slot-of = slot-by-masks n es place (names-ascend n es place W)
 
   -- 4. the objects of a part are those that are placed there
   pub objects-by-places : (q : ℕ) → q < n → objectsIn (spread n es place) q ≡ length (keep (λ o. eqb (place (name o)) q) (objects es))
@@ -218,7 +176,7 @@ module _ (n : ℕ) (es : List Entity) (place : Placement) (W : WellPlaced n es p
       let here : Entity → Bool = λ o. eqb (place (name o)) q in
       ap length (ascending-ext name (keep (λ e. isObject (flat ps) (name e)) part) (keep here (keep (λ e. isObject es (name e)) es))
       (keep-ascends name (λ e. isObject (flat ps) (name e)) part (F .ascends q))
-      (keep-ascends name here (keep (λ e. isObject es (name e)) es) (keep-ascends name (λ e. isObject es (name e)) es names-ascend))
+      (keep-ascends name here (keep (λ e. isObject es (name e)) es) (keep-ascends name (λ e. isObject es (name e)) es (names-ascend n es place W)))
       (λ e i. let w = keep-in (λ e. isObject (flat ps) (name e)) part e i in
       let m : In e es = spread-in n es place q e (w .0) .1 in
       let t : T (isObject es (name e)) = subst T (object-is (name e)) (w .1) in

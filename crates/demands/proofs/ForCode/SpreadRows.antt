@@ -23,10 +23,10 @@ use Rattle.part_set.proofs.MaskParts.{has-lt, partsIn-in, others-in}
 use Rattle.demands.proofs.Entities.Fits.{fits-closed}
 use Rattle.demands.proofs.Rows.ReadBack.{slot-lt, slot-name}
 use Rattle.demands.proofs.Mesh.Spread.{spread-length}
-use Rattle.demands.proofs.Mesh.ToFit.{spread-fit}
+use Rattle.demands.proofs.Mesh.ToFit.{spread-fit, ent-fits}
 use Rattle.demands.proofs.Fit.Held.{part-closed}
 use Rattle.demands.proofs.Fit.Rows.{has-residence}
-use Rattle.demands.proofs.ForCode.Spread.{maskAt, slotBy, part-by-masks, mask-lt, ent-fits, slot-of, objects-by-places}
+use Rattle.demands.proofs.ForCode.Spread.{maskAt, slotBy, part-by-masks, mask-lt, slot-of, objects-by-places}
 use Rattle.demands.proofs.ForCode.Sizes.{rows-by-masks}
 
 -- ---- what is to be written
@@ -60,7 +60,7 @@ rowBy ps es c q i =
 
 -- ---- owners by counts
 
-poorest-same : (c d : ℕ → ℕ) (p : ℕ) (qs : List ℕ) → c p ≡ d p → ((q : ℕ) → In q qs → c q ≡ d q) → poorest c p qs ≡ poorest d p qs
+pub poorest-same : (c d : ℕ → ℕ) (p : ℕ) (qs : List ℕ) → c p ≡ d p → ((q : ℕ) → In q qs → c q ≡ d q) → poorest c p qs ≡ poorest d p qs
 unfolding poorest
 poorest-same c d p [] e h = refl
 poorest-same c d p (q ∷ qs) e h =

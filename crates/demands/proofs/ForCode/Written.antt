@@ -11,19 +11,20 @@ use mathlib.Core.List.{List, [], _∷_, _++_, map, append-assoc, append-nil}
 use lib.ListN.{length, getD, length-append}
 use lib.Seq.{take-length}
 use lib.Dec.{T}
-use Rattle.laws.specs.Lists.{keep, flat, from, upTo}
+use Rattle.laws.specs.Lists.{keep, flat, from, upTo, total}
 use Rattle.field.specs.Bytes.{bytesOf}
 use Rattle.part_set.specs.Masks.{has}
 use Rattle.paper.specs.Image.{Row, rowBytes, partBytes, imageOf}
 use Rattle.paper.specs.Mesh.{Entity, Parts}
 use Rattle.paper.specs.Placement.{Placement, spread, rowsFor, imageFor, WellPlaced}
 use Rattle.laws.proofs.Agree.{map-of-map}
+use Rattle.laws.proofs.Totals.{upTo-snoc}
 use Rattle.field.proofs.Numbers.{length-bytes}
 use Rattle.demands.proofs.Rows.Made.{rows-count}
 use Rattle.demands.proofs.Mesh.Spread.{spread-length}
 use Rattle.demands.proofs.Fit.Rows.{in-rows}
-use Rattle.demands.proofs.ForCode.Spread.{maskAt, slotBy, upTo-snoc, take-read, length-by-masks}
-use Rattle.demands.proofs.ForCode.Sizes.{total, rowSize, row-size}
+use Rattle.demands.proofs.ForCode.Spread.{maskAt, slotBy, take-read, length-by-masks}
+use Rattle.demands.proofs.ForCode.Sizes.{rowSize, row-size}
 use Rattle.demands.proofs.ForCode.SlotClosures.{map-append}
 use Rattle.demands.proofs.ForCode.SpreadRows.{rowBy, placedIn, row-by-masks, part-rows-by-masks}
 

@@ -25,19 +25,19 @@ use lib.Dec.{nltb→le}
 use Rattle.demands.proofs.Fit.Held.{flat-uniq}
 
 module _ (n : ℕ) (es : List Entity) (place : Placement) (W : WellPlaced n es place) where
-  ascends : T (ascending (map name es))
+  pub names-ascend : T (ascending (map name es))
   unfolding meshFits
-  ascends = split2 (ascending (map name es)) (every (entFits es) es) (W .mesh) .0
+  names-ascend = split2 (ascending (map name es)) (every (entFits es) es) (W .mesh) .0
 
-  ok : (e : Entity) → In e es → EntOk es e
+  pub ent-fits : (e : Entity) → In e es → EntOk es e
   unfolding meshFits
-  ok e i = ok-of es e (every-in (entFits es) es (split2 (ascending (map name es)) (every (entFits es) es) (W .mesh) .1) e i)
+  ent-fits e i = ok-of es e (every-in (entFits es) es (split2 (ascending (map name es)) (every (entFits es) es) (W .mesh) .1) e i)
 
   uniq : Uniq es
-  uniq = ascends-uniq name es ascends
+  uniq = ascends-uniq name es names-ascend
 
   closed : Closed es
-  closed = fits-closed es ok
+  closed = fits-closed es ent-fits
 
   placed : (o : Entity) → In o es → T (isObject es (name o)) → place (name o) < n
   unfolding placesOf
@@ -48,7 +48,7 @@ module _ (n : ℕ) (es : List Entity) (place : Placement) (W : WellPlaced n es p
   -- every entity is in some part
   somewhere : (e : Entity) → In e es → (p : ℕ) × (p < n) × In e (getD (spread n es place) p [])
   somewhere e i =
-      let r = in-closure es closed uniq es (λ f j. j) (λ f j. ok f j .dim) (λ f j. object-or es (name f)) e i in
+      let r = in-closure es closed uniq es (λ f j. j) (λ f j. ent-fits f j .dim) (λ f j. object-or es (name f)) e i in
       let p = place (name (r .0)) in
       let h = placed (r .0) (r .1) (r .2) in
       (p, h, in-spread n es place p e h i (record { top = r .0; in-mesh = r .1; object = r .2; placed = refl; covers = r .3 }))
@@ -63,7 +63,7 @@ module _ (n : ℕ) (es : List Entity) (place : Placement) (W : WellPlaced n es p
       go : T (ltb p n) ⊎ T (not (ltb p n)) → T (ascending (map name (getD (spread n es place) p [])))
       go (inl h) =
           subst (λ (l : List Entity). T (ascending (map name l))) (sym (spread-part n es place p (ltb→lt p n h)))
-          (keep-ascends name (λ e. member (name e) (closures es place p)) es ascends)
+          (keep-ascends name (λ e. member (name e) (closures es place p)) es names-ascend)
       go (inr h) =
           subst (λ (l : List Entity). T (ascending (map name l)))
           (sym (List·getD-eq-default (spread n es place) [] (subst (λ (z : ℕ). z ≤ p) (sym (spread-length n es place)) (nltb→le p n h)))) (sort-ascends [])
@@ -94,7 +94,7 @@ module _ (n : ℕ) (es : List Entity) (place : Placement) (W : WellPlaced n es p
 
   part-fits : (p : ℕ) (e : Entity) → In e (getD (spread n es place) p []) → EntOk (getD (spread n es place) p []) e
   part-fits p e i =
-      ok-down (getD (spread n es place) p []) es (part-closed p) (ascends-uniq name (getD (spread n es place) p []) (part-ascends p)) uniq (inc p) e i (ok e (inc p e i))
+      ok-down (getD (spread n es place) p []) es (part-closed p) (ascends-uniq name (getD (spread n es place) p []) (part-ascends p)) uniq (inc p) e i (ent-fits e (inc p e i))
 
   object-is : (k : ℕ) → isObject (flat (spread n es place)) k ≡ isObject es k
   object-is k =
@@ -133,7 +133,7 @@ module _ (n : ℕ) (es : List Entity) (place : Placement) (W : WellPlaced n es p
   pub spread-mesh : meshOf (spread n es place) ≡ es
   unfolding meshOf
   spread-mesh =
-      ascending-ext name (sortEnts (flat (spread n es place))) es (sort-ascends (flat (spread n es place))) ascends
+      ascending-ext name (sortEnts (flat (spread n es place))) es (sort-ascends (flat (spread n es place))) names-ascend
       (λ e i. let w = flat-in (spread n es place) e (sort-in (flat (spread n es place)) e i) in inc (w .0) e (w .2))
       (λ e i. let w = somewhere e i in in-sort (flat (spread n es place)) (flat-uniq (spread n es place) spread-fit) e (in-flat (spread n es place) (w .0) e (w .2)))
 

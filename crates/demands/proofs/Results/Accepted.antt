@@ -2,24 +2,24 @@
 -- Assumes nothing.
 use Prim.Native.Nat.{ℕ, _≤_, _<_}
 use mathlib.Core.Path.{_≡_, sym, ap, _∙_, subst}
-use mathlib.Core.Bool.{Bool}
 use mathlib.Core.List.{List}
-use mathlib.Core.Option.{Option, none, some}
 use lib.ListN.{length}
 use lib.Dec.{T, ltb, leb, leb→le, le→leb}
 use lib.Pow.{areBytes}
 use Rattle.laws.specs.Lists.{In, flat}
-use Rattle.paper.specs.Outcome.{accepted, unless}
+use Rattle.paper.specs.declared.EntryRule.the-variants.{Whole, Destination, Known, Object}
+use Rattle.paper.specs.Outcome.{accepted}
 use Rattle.paper.specs.Image.{Set, rowTotal}
 use Rattle.paper.specs.Mesh.{Entity, Parts, isObject, holds, partsOf, meshOf}
-use Rattle.paper.specs.Sound.{maxImage, soundOf}
-use Rattle.paper.specs.Move.{entryName, entryPart, allEntries, entryPlace, entriesMust, entryFits, Migrated, migrated, sizeSet, migrateSet, migrateOf}
+use Rattle.paper.specs.Sound.{maxImage, decode, rulesOf, soundOf}
+use Rattle.paper.specs.Move.{entryName, entryPart, allEntries, entryFits, entryJudged, Migrated, migrated, sizeSet, migrateSet, migrateOf}
 use Rattle.laws.proofs.Tests.{iff-eq}
 use Rattle.laws.proofs.Members.{in-flat, flat-in}
-use Rattle.laws.proofs.FirstBad.{all-none}
-use Rattle.paper.proofs.Outcomes.{accepted-inj, bind-inv, then-inv, must-inv}
 use Rattle.demands.proofs.Entities.Names.{holds-in, in-holds}
-use Rattle.demands.proofs.Rows.Outcomes.{must-ok, then-ok, bind-ok}
+use Rattle.paper.proofs.Outcomes.{accepted-inj, bind-inv, then-inv, must-inv, must-ok, then-ok, bind-ok}
+use Rattle.paper.proofs.ImageCodec.{decode-inv}
+use Rattle.demands.specs.Passed.{ListPassed}
+use Rattle.demands.proofs.Rows.Entries.{list-passes, list-inv}
 use Rattle.demands.proofs.Fit.Record.{Fit}
 use Rattle.demands.proofs.Fit.ToMesh.{in-mesh, mesh-in, mesh-object}
 use Rattle.demands.proofs.Sound.Facts.{sound-inv}
@@ -42,36 +42,31 @@ pub record Room (S : Set) (l : List ℕ) (out work : ℕ) : Type 0 where
 
 -- ---- of a set
 
-entries-ok : (k : ℕ) (l : List ℕ) (ok : ℕ → Bool) → ((i : ℕ) → i < allEntries l → T (ok i)) → entriesMust k l ok ≡ accepted tt
-unfolding entriesMust unless
-entries-ok k l ok h =
-    ap (λ (o : Option ℕ). unless k (elim o [ none ↦ none | some i ↦ some (entryPlace i) ])) (all-none ok (allEntries l) h)
+each-passes : (S : Set) (l : List ℕ) → Listed (length S) (flat (partsOf S)) l → ListPassed S l
+unfolding entryJudged
+each-passes S l a Whole = a .fits
+each-passes S l a Destination = a .dests
+each-passes S l a Known = a .there
+each-passes S l a Object = a .object
 
 set-accepts : (S : Set) (l : List ℕ) (out work : ℕ) → Listed (length S) (flat (partsOf S)) l → Room S l out work
     → migrateSet S l out work ≡ accepted (migrated S l)
-unfolding sizeSet migrateSet
+unfolding migrateSet
 set-accepts S l out work a r =
     let m = migrated S l in
     bind-ok (sizeSet S l work) _ m (
-    then-ok _ _ tt (entries-ok 13 l (entryFits l) (a .fits))
-    ∙ then-ok _ _ tt (entries-ok 14 l (λ i. ltb (entryPart l i) (length S)) (a .dests))
-    ∙ then-ok _ _ tt (entries-ok 15 l (λ i. holds (flat (partsOf S)) (entryName l i)) (a .there))
-    ∙ then-ok _ _ tt (entries-ok 16 l (λ i. isObject (flat (partsOf S)) (entryName l i)) (a .object))
+    list-passes S l work (each-passes S l a)
     ∙ then-ok _ _ tt (must-ok 17 (leb (rowTotal S) work) (le→leb (rowTotal S) work (r .words)))
     ∙ then-ok _ _ tt (must-ok 18 (leb (length (m .image)) maxImage) (le→leb (length (m .image)) maxImage (r .small)))
     )
     ∙ then-ok _ _ tt (must-ok 19 (leb (length (m .image)) out) (le→leb (length (m .image)) out (r .bytes)))
 
 set-room : (S : Set) (l : List ℕ) (out work : ℕ) (m : Migrated) → migrateSet S l out work ≡ accepted m → Room S l out work
-unfolding sizeSet migrateSet
+unfolding migrateSet
 set-room S l out work m e =
     let sized = bind-inv (sizeSet S l work) _ m e in
     let n = sized .0 in
-    let s₁₃ = then-inv _ _ n (sized .1) in
-    let s₁₄ = then-inv _ _ n (s₁₃ .2) in
-    let s₁₅ = then-inv _ _ n (s₁₄ .2) in
-    let s₁₆ = then-inv _ _ n (s₁₅ .2) in
-    let s₁₇ = then-inv _ _ n (s₁₆ .2) in
+    let s₁₇ = then-inv _ _ n (list-inv S l work n (sized .1) .1) in
     let s₁₈ = then-inv _ _ n (s₁₇ .2) in
     let s₁₉ = then-inv _ _ m (sized .2) in
     record {
@@ -132,4 +127,4 @@ move-accepted b S l out work m y a e =
 -- an accepted image is not too long
 pub image-small : (b : List ℕ) (S : Set) → Accepts b S → length b ≤ maxImage
 unfolding soundOf
-image-small b S a = let w = then-inv _ _ S a in leb→le (length b) maxImage (must-inv 1 (leb (length b) maxImage) (w .0) (w .1))
+image-small b S a = let w = bind-inv (decode b) rulesOf S a in decode-inv b (w .0) (w .1) .small

@@ -4,11 +4,11 @@
 use Prim.Native.Nat.{ℕ}
 use native.Mathlib.Omega.{arith}
 use mathlib.Core.Path.{_≡_, refl, sym, ap, _∙_, subst}
-use mathlib.Core.List.{List, [], map}
+use mathlib.Core.List.{List, []}
 use lib.ListN.{getD}
 use lib.Dec.{T, eqb, eqb→eq}
 use lib.Pow.{areBytes}
-use Rattle.laws.specs.Lists.{In, flat, ascending}
+use Rattle.laws.specs.Lists.{In, flat}
 use Rattle.part_set.specs.Masks.{partsIn}
 use Rattle.paper.specs.Outcome.{accepted}
 use Rattle.paper.specs.Image.{Set}
@@ -20,7 +20,7 @@ use Rattle.laws.proofs.Tests.{eq-eqb}
 use Rattle.laws.proofs.Members.{part-lt}
 use Rattle.laws.proofs.Keyed.{keep-ascends}
 use Rattle.part_set.proofs.MaskParts.{partsIn-in, in-partsIn}
-use Rattle.demands.proofs.Entities.Sorted.{sort-ascends}
+use Rattle.demands.proofs.Entities.Sorted.{mesh-ascends}
 use Rattle.demands.proofs.Entities.Owners.{owner-in}
 use Rattle.demands.proofs.Mesh.Spread.{objects-in, in-objects}
 use Rattle.demands.proofs.Fit.Record.{Fit}
@@ -32,10 +32,6 @@ use Rattle.demands.proofs.Theorems.SameBytes.{same-bytes}
 use Rattle.demands.proofs.Results.Accepted.{image-fit}
 use Rattle.demands.proofs.Results.Lands.{after}
 use Rattle.demands.proofs.Results.Sums.{sum-once}
-
-mesh-ascends : (ps : Parts) → T (ascending (map name (meshOf ps)))
-unfolding meshOf
-mesh-ascends ps = sort-ascends (flat ps)
 
 module _ (w : Entity → ℕ) (ps : Parts) (F : Fit ps) where
   objects-once : overObjects w ps ≡ sumOf w (objects (meshOf ps))

@@ -10,26 +10,21 @@ use lib.Ieee.{nan, inf, fin}
 use Rattle.paper.specs.declared.Box.{Box}
 use Rattle.paper.specs.Outcome.{Outcome, refused, accepted, _>>=_, answered}
 use Rattle.paper.specs.Image.{Set}
-use Rattle.paper.specs.Sound.{soundOf, checkOf}
+use Rattle.paper.specs.Sound.{soundOf}
 use Rattle.paper.specs.Move
 use Rattle.paper.specs.Move.{Migrated, Sizes, migrateSet, migrateOf}
 use Rattle.paper.specs.Lookup
 use Rattle.paper.specs.Lookup.{Found}
 use Rattle.paper.specs.Box
-use Rattle.paper.proofs.Meshes.{v4, A, B, A₅, twice}
+use Rattle.paper.proofs.Meshes.{v4, A, B, twice}
 use Rattle.paper.proofs.OwnMeshes.{lone}
 use Rattle.paper.proofs.Table.{send}
 use Rattle.demands.specs.Programs.{Correct, AlwaysCorrect, CorrectCheck, CorrectLookup, CorrectBox, doneWith, exact}
-use Rattle.demands.specs.WrongPrograms.{instead, refusesAll, gives, handsBack, movesOnce, inventsCount, countsEntries, ownersBefore, countsBig, oldSlots, leavesCopy, dropsEdges, leavesWork, clearsRest, saysSound, lowestOwner, boxFromZero}
-use Rattle.demands.proofs.Results.Examples.{B₅, zeros}
+use Rattle.demands.specs.WrongPrograms.{instead, refusesAll, gives, handsBack, movesOnce, inventsCount, countsEntries, leavesWork, clearsRest, saysSound, lowestOwner, boxFromZero}
+use Rattle.demands.proofs.Results.Examples.{B₅, zeros, code}
 use Rattle.demands.proofs.Results.Programs.{exact-correct}
 
 -- ---- what the answers are compared by
-
--- the refusal's number, or 0
-abbrev code : {A : Type 0} → Outcome A → ℕ
-code (refused k p) = k
-code (accepted a) = 0
 
 abbrev movedCount : Outcome Sizes → ℕ
 movedCount (refused k p) = 0
@@ -95,40 +90,6 @@ invents-count-wrong c = let e : _≡_ {A = ℕ} 7 1 = ap movedCount (c A (send 2
 pub counts-entries-wrong : Correct countsEntries → ⊥
 unfolding Move.computes
 counts-entries-wrong c = let e : _≡_ {A = ℕ} 1 0 = ap movedCount (c B (send 2 2 1) (zeros 712) (zeros 14) .answer) in omega arith
-
--- ---- the errors that we have really made
-
--- case 5: the owner of vertex 2 stands at byte 65, in its row of part 0
-pub owners-before-wrong : Correct ownersBefore → ⊥
-unfolding Move.computes
-owners-before-wrong c =
-    let e : _≡_ {A = ℕ} 1 0 = ap (λ (o : List ℕ). getD o 65 0) (c A₅ (send 0 5 1 ++ send 2 2 1) (zeros 760) (zeros 12) .output) in omega arith
-
--- case 4
-pub counts-big-wrong : Correct countsBig → ⊥
-unfolding Move.computes
-counts-big-wrong c = let e : _≡_ {A = ℕ} 0 1 = ap (λ (o : List ℕ). getD o 65 0) (c A₅ (send 2 2 1) (zeros 760) (zeros 12) .output) in omega arith
-
--- part 0 is to keep edge 3, vertex 2 and vertex 3, which triangle 1 uses: 7 rows
-pub drops-edges-wrong : Correct dropsEdges → ⊥
-unfolding Move.computes
-drops-edges-wrong c = let e : _≡_ {A = ℕ} 4 7 = ap (λ (o : List ℕ). getD o 8 0) (c A (send 2 2 1) (zeros 712) (zeros 11) .output) in omega arith
-
--- the slot of vertex 3 in part 1 stands at byte 160, in its row of part 0
-pub old-slots-wrong : Correct oldSlots → ⊥
-unfolding Move.computes
-old-slots-wrong c = let e : _≡_ {A = ℕ} 0 1 = ap (λ (o : List ℕ). getD o 160 0) (c A (send 2 2 1) (zeros 712) (zeros 11) .output) in omega arith
-
--- ---- the accident of document 00: triangle 2 is in part 1, and all of A is still in part 0
-
-pub leaves-copy-wrong : Correct leavesCopy → ⊥
-unfolding Move.computes
-leaves-copy-wrong c = let e : _≡_ {A = ℕ} 11 7 = ap (λ (o : List ℕ). getD o 8 0) (c A (send 2 2 1) (zeros 1000) (zeros 11) .output) in omega arith
-
--- what it writes is refused under 11
-leaves-copy-seen : code (checkOf (leavesCopy A (send 2 2 1) (zeros 936) (zeros 11) .out)) ≡ 11
-unfolding Move.computes
-leaves-copy-seen = refl
 
 -- ---- buffers
 

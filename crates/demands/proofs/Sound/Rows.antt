@@ -76,7 +76,7 @@ pub record FieldsOk (n p : ℕ) (r : Row) : Type 0 where
   pub value : T (valueFits (r .kind) (r .value))
   pub body : T (bodyFits (r .dim) (r .body))
 
-fields-of : (n p : ℕ) (r : Row) → T (fieldsFit n p r) → FieldsOk n p r
+pub fields-of : (n p : ℕ) (r : Row) → T (fieldsFit n p r) → FieldsOk n p r
 unfolding fieldsFit
 fields-of n p r t =
     let s = split8 (leb (r .dim) 3) (ltb (r .owner) n) (leb (r .kind) 2) (eqb (r .pad) 0) (ltb (r .mask) (2 ^ n)) (has (r .mask) p) (valueFits (r .kind) (r .value)) (bodyFits (r .dim) (r .body)) t in

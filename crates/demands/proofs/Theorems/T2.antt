@@ -27,4 +27,4 @@ pub theorem-2 : T2
 unfolding imageFor
 theorem-2 n es place w small =
     let ps = spread n es place in
-    sound-accepts (rowsFor ps) (fit-sound ps (spread-fit n es place w) (λ p. part-few ps p small)) (λ p. row-few (rowsFor ps) p small) small
+    sound-accepts (rowsFor ps) (fit-sound ps (spread-fit n es place w) (λ p. part-few ps p small)) small

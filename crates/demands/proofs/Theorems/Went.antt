@@ -6,14 +6,15 @@ use mathlib.Core.List.{List}
 use lib.ListN.{length}
 use lib.Dec.{T, ltb, leb→le}
 use Rattle.laws.specs.Lists.{flat}
+use Rattle.paper.specs.declared.EntryRule.the-variants.{Whole, Destination, Known, Object}
 use Rattle.paper.specs.Outcome.{Outcome, accepted, _>>=_}
 use Rattle.paper.specs.Image.{Set}
 use Rattle.paper.specs.Mesh.{partsOf, isObject, holds}
 use Rattle.paper.specs.Sound.{maxImage}
-use Rattle.paper.specs.Move.{entryName, entryPart, allEntries, entryFits, Migrated, migrated, sizeSet, migrateSet, migrateOf}
+use Rattle.paper.specs.Move.{entryName, entryPart, allEntries, entryFits, entryJudged, Migrated, migrated, sizeSet, migrateSet, migrateOf}
 use Rattle.demands.proofs.Theorems.Statements.{Accepts}
 use Rattle.paper.proofs.Outcomes.{accepted-inj, bind-inv, then-inv, must-inv}
-use Rattle.demands.proofs.Rows.Entries.{entries-inv}
+use Rattle.demands.proofs.Rows.Entries.{list-inv}
 
 pub record Went (S : Set) (l : List ℕ) (m : Migrated) : Type 0 where
   pub entries : (i : ℕ) → i < allEntries l → T (entryFits l i)
@@ -24,22 +25,19 @@ pub record Went (S : Set) (l : List ℕ) (m : Migrated) : Type 0 where
   pub is : migrated S l ≡ m
 
 pub went : (S : Set) (l : List ℕ) (out work : ℕ) (m : Migrated) → migrateSet S l out work ≡ accepted m → Went S l m
-unfolding sizeSet migrateSet
+unfolding migrateSet entryJudged
 went S l out work m e =
     let sized = bind-inv (sizeSet S l work) _ m e in
     let n = sized .0 in
-    let s₁₃ = then-inv _ _ n (sized .1) in
-    let s₁₄ = then-inv _ _ n (s₁₃ .2) in
-    let s₁₅ = then-inv _ _ n (s₁₄ .2) in
-    let s₁₆ = then-inv _ _ n (s₁₅ .2) in
-    let s₁₇ = then-inv _ _ n (s₁₆ .2) in
+    let list = list-inv S l work n (sized .1) in
+    let s₁₇ = then-inv _ _ n (list .1) in
     let s₁₈ = then-inv _ _ n (s₁₇ .2) in
     let s₁₉ = then-inv _ _ m (sized .2) in
     record {
-      entries = entries-inv 13 l (entryFits l) (s₁₃ .0) (s₁₃ .1);
-      dests = entries-inv 14 l (λ i. ltb (entryPart l i) (length S)) (s₁₄ .0) (s₁₄ .1);
-      there = entries-inv 15 l (λ i. holds (flat (partsOf S)) (entryName l i)) (s₁₅ .0) (s₁₅ .1);
-      objects = entries-inv 16 l (λ i. isObject (flat (partsOf S)) (entryName l i)) (s₁₆ .0) (s₁₆ .1);
+      entries = list .0 Whole;
+      dests = list .0 Destination;
+      there = list .0 Known;
+      objects = list .0 Object;
       small = leb→le (length (migrated S l .image)) maxImage (must-inv 18 _ (s₁₈ .0) (s₁₈ .1));
       is = accepted-inj (s₁₈ .2) ∙ accepted-inj (s₁₉ .2);
     }

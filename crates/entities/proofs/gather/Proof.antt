@@ -1,13 +1,13 @@
--- `entities::gather`: the lowest copies of the first p parts are there (`Filled`). Assumes nothing.
+-- `entities::gather`: the lowest copies of the first p parts are there (`PartsFilled`). Assumes nothing.
 use Prim.Native.Nat.{_-_}
 use native.Mathlib.Omega.{arith}
 use lib.ListN.{length-set}
-use Rattle.entities.proofs.Gatherings.{Filled, filled-none, filled-room, filled-more, filled-done, readable-all}
+use Rattle.entities.proofs.Gatherings.{PartsFilled, filled-none, filled-room, filled-more, filled-done, readable-all}
 use Rattle.entities.proofs.gather.Statement.{statement}
 use Rattle.entities.proofs.gather.Tie as tie
 
 abbrev Inv-loop : tie.InvT-loop
-Inv-loop image offs starts n ord₀ st₀ p₀ k₀ ord st p k = Filled image starts ord₀ st₀ ord st n p k
+Inv-loop image offs starts n ord₀ st₀ p₀ k₀ ord st p k = PartsFilled image starts ord₀ st₀ ord st n p k
 
 abbrev μ-loop : tie.MeasureT-loop
 μ-loop image offs starts n ord₀ st₀ p₀ k₀ ord st p k = n - p

@@ -4,7 +4,7 @@ use native.Mathlib.Omega.{arith}
 use mathlib.Core.List.{[]}
 use lib.ListN.{length, getD}
 use Rattle.index.specs.Index.{setIn}
-use Rattle.rules.proofs.rows.Laws.{part-rows}
+use Rattle.rows.proofs.Laws.{part-rows}
 use Rattle.entities.proofs.Own.{row-listed}
 use Rattle.entities.proofs.Parts.{Going, going-none, going-more, going-done, low-one}
 use Rattle.entities.proofs.gather_part.Statement.{statement}

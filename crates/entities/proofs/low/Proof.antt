@@ -1,6 +1,6 @@
 -- `entities::low`: the lowest part of the set that is read is compared with the row's own. Assumes nothing.
 use native.Mathlib.Omega.{arith}
-use Rattle.rules.proofs.rows.Laws.{part-there}
+use Rattle.rows.proofs.Laws.{part-there}
 use Rattle.entities.proofs.Own.{mask-some, row-listed, offset-listed, low-yes, low-no}
 use Rattle.entities.proofs.low.Statement.{statement}
 use Rattle.entities.proofs.low.Tie as tie

@@ -6,7 +6,8 @@ use Prim.Native.Nat.{_/_, _%_, _^_}
 use lib.Seq.{sets}
 use Rattle.field.specs.Bytes.{bytesOf}
 use Rattle.field.proofs.Numbers.{length-bytes}
-use Rattle.field.proofs.Stores.{sets-then, bytes-halves}
+use Rattle.laws.proofs.Stores.{sets-then}
+use Rattle.field.proofs.Stores.{bytes-halves}
 use Rattle.field.proofs.put_long.Statement.{statement}
 use Rattle.field.proofs.put_long.Tie as tie
 

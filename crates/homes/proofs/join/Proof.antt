@@ -4,7 +4,7 @@ use native.Mathlib.Omega.{arith}
 use lib.Dec.{T}
 use lib.Pow.{areBytes}
 use borrow.Author.Needs.{needs}
-use Rattle.rules.proofs.residence.Copied.{bytes-all}
+use Rattle.field.proofs.Reading.{bytes-all}
 use Rattle.homes.proofs.EachEntity.{Homed, homed-none, homed-done, lowest-listed, one-there, homed-more}
 use Rattle.homes.proofs.join.Statement.{statement}
 use Rattle.homes.proofs.join.Tie as tie

@@ -1,6 +1,6 @@
 -- `index::has_count`: the bytes at 5 to 7. Assumes nothing.
 use borrow.Author.Needs.{needs}
-use Rattle.index.specs.Head.{partsCounted}
+use Rattle.paper.specs.Sound.{partsCounted}
 use Rattle.index.proofs.has_count.Statement.{statement}
 use Rattle.index.proofs.has_count.Tie as tie
 

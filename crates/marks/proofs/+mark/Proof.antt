@@ -14,7 +14,7 @@ use Rattle.marks.proofs.+mark.Lts-mark as mark-lts
 use Rattle.marks.proofs.face.Reads as face-reads
 use Rattle.marks.proofs.put.Reads as put-reads
 use Rattle.part_set.proofs.has.Reads as has-reads
-use Rattle.rules.proofs.rows.row_of.Reads as row-of-reads
+use Rattle.rows.proofs.row_of.Reads as row-of-reads
 use Rattle.marks.proofs.+mark.{statement}
 use Rattle.marks.proofs.+mark.Tie.{close}
 

@@ -4,13 +4,13 @@ use native.Mathlib.Omega.{arith}
 use borrow.Author.Needs.{needs}
 use Rattle.paper.specs.Move.{allEntries}
 use Rattle.index.specs.Index.{setIn}
-use Rattle.moves.specs.Entries.{entryTest}
+use Rattle.paper.specs.Move.{entryJudged}
 use Rattle.moves.proofs.Loops.{AtEntry, start, skip, hit, over}
 use Rattle.moves.proofs.first_entry.Statement.{statement}
 use Rattle.moves.proofs.first_entry.Tie as tie
 
 abbrev Inv-loop : tie.InvT-loop
-Inv-loop rule image list n total i₀ i = AtEntry (entryTest rule (setIn image) list) (allEntries list) i
+Inv-loop rule image list n total i₀ i = AtEntry (entryJudged rule (setIn image) list) (allEntries list) i
 
 abbrev μ-loop : tie.MeasureT-loop
 μ-loop rule image list n total i₀ i = total - i

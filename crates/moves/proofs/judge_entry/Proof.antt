@@ -2,7 +2,8 @@
 use native.Mathlib.Omega.{arith}
 use mathlib.Core.Path.{ap}
 use borrow.Author.Needs.{needs}
-use Rattle.moves.specs.Entries.{refusalOf}
+use Rattle.paper.specs.declared.EntryRule.the-variants.{Whole}
+use Rattle.paper.specs.Move.{entryRank}
 use Rattle.moves.proofs.Judging.{is-destination, passed-whole, by-whole, by-destination}
 use Rattle.moves.proofs.judge_entry.Statement.{statement}
 use Rattle.moves.proofs.judge_entry.Tie as tie
@@ -17,7 +18,7 @@ part-of-requires : tie.Need-part-of-requires
 part-of-requires c κs =
     let pre = c .before .before .before .pre in
     let e = is-destination (c .before .before .before .args .rule) (pre .0 .early) (c .match .keys2) in
-    passed-whole _ _ _ (omega (arith, ap refusalOf e)) (pre .0 .passed) _ (pre .1)
+    passed-whole _ _ (pre .0 .passed Whole (omega (arith, ap entryRank e))) _ (pre .1)
 
 returns : tie.Need-returns
 returns c = by-whole (c .before .before .before .before .before .pre .0) _ _ (c .before .enum-told .given .1) (c .entry-fits .ensures)

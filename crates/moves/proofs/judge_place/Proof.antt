@@ -1,7 +1,8 @@
 -- `moves::judge_place`: a name that is held stands at its lower bound, and its row is an object where it is not covered. Assumes nothing.
 use native.Mathlib.Omega.{arith}
 use borrow.Author.Needs.{needs}
-use Rattle.moves.proofs.Judging.{is-entity, passed-whole, beyond, row-there, by-entity, by-object}
+use Rattle.paper.specs.declared.EntryRule.the-variants.{Whole}
+use Rattle.moves.proofs.Judging.{is-known, passed-whole, beyond, row-there, by-known, by-object}
 use Rattle.moves.proofs.judge_place.Statement.{statement}
 use Rattle.moves.proofs.judge_place.Tie as tie
 
@@ -42,7 +43,7 @@ shared-slice-read-result-2 c =
 name-of-requires : tie.Need-name-of-requires
 name-of-requires c κs =
     let pre = c .before .before .before .before .before .before .before .before .before .pre in
-    passed-whole _ _ _ (omega (arith, pre .0 .late)) (pre .0 .passed) _ (pre .1 .0)
+    passed-whole _ _ (pre .0 .passed Whole (omega (arith, pre .0 .late))) _ (pre .1 .0)
 
 returns-2 : tie.Need-returns-2
 returns-2 c =
@@ -52,7 +53,7 @@ returns-2 c =
 returns-3 : tie.Need-returns-3
 returns-3 c =
     let pre = c .before .before .before .before .before .before .before .before .before .before .pre in
-    by-entity (pre .0) _ (pre .1 .0) (pre .1 .1) _ (is-entity _ (pre .0 .late) (c .before .before .match .keys2)) (c .before .before .before .before .if1 .left) (c .name-of .ensures)
+    by-known (pre .0) _ (pre .1 .0) (pre .1 .1) _ (is-known _ (pre .0 .late) (c .before .before .match .keys2)) (c .before .before .before .before .if1 .left) (c .name-of .ensures)
 
 pub judge-place-spec : {M : Type 1} → statement M
 judge-place-spec =

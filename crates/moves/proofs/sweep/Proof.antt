@@ -3,7 +3,8 @@ use Prim.Native.Nat.{_-_}
 use native.Mathlib.Omega.{arith}
 use borrow.Author.Needs.{needs}
 use Rattle.index.specs.Index.{setIn}
-use Rattle.moves.specs.Entries.{entryTest}
+use Rattle.paper.specs.declared.EntryRule.the-variants.{Whole}
+use Rattle.paper.specs.Move.{entryJudged}
 use Rattle.moves.proofs.Loops.{skip, hit, over}
 use Rattle.moves.proofs.Cursor.{Swept, begin, next}
 use Rattle.moves.proofs.Judging.{passed-whole, passed-next}
@@ -11,7 +12,7 @@ use Rattle.moves.proofs.sweep.Statement.{statement}
 use Rattle.moves.proofs.sweep.Tie as tie
 
 abbrev Inv-loop : tie.InvT-loop
-Inv-loop rule image list keys ord covered count total from₀ i₀ from i = Swept (entryTest rule (setIn image) list) list keys ord count from i
+Inv-loop rule image list keys ord covered count total from₀ i₀ from i = Swept (entryJudged rule (setIn image) list) list keys ord count from i
 
 abbrev μ-loop : tie.MeasureT-loop
 μ-loop rule image list keys ord covered count total from₀ i₀ from i = total - i
@@ -25,7 +26,7 @@ loop-holds c = begin
 name-of-requires : tie.Need-name-of-requires Inv-loop μ-loop
 name-of-requires c κs =
     let pre = c .before .before .before .before .before .before .before .before .pre in
-    passed-whole _ _ _ (omega (arith, pre .late)) (pre .passed) _ (omega (arith, c .loop-test .taken, c .before .before .entries .ensures))
+    passed-whole _ _ (pre .passed Whole (omega (arith, pre .late))) _ (omega (arith, c .loop-test .taken, c .before .before .entries .ensures))
 
 seek-requires : tie.Need-seek-requires Inv-loop μ-loop
 seek-requires c κs = (c .before .before .before .before .before .before .before .before .before .pre .catalog .listing, rw (c .name-of .ensures) (c .before .before .loop .inv .behind (omega (arith, c .before .loop-test .taken, c .before .before .before .entries .ensures))))
@@ -45,7 +46,7 @@ loop-less c = search needs
 loop-again : tie.Need-loop-again Inv-loop μ-loop
 loop-again c =
     let pre = c .before .before .before .before .before .before .before .before .before .before .before .before .pre in
-    next _ (passed-next _ _ _ (omega (arith, pre .late)) (pre .passed) _) (rw (c .before .before .before .name-of .ensures) at (c .before .before .seek .ensures))
+    next _ (passed-next _ _ (pre .passed Whole (omega (arith, pre .late))) _) (rw (c .before .before .before .name-of .ensures) at (c .before .before .seek .ensures))
     (skip (c .before .before .before .before .before .loop .inv .at) (omega (arith, c .before .before .before .before .loop-test .taken, c .before .before .before .before .before .before .entries .ensures)) (c .before .judge-place .ensures) (c .if1 .left))
 
 returns-2 : tie.Need-returns-2 Inv-loop μ-loop

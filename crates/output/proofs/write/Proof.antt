@@ -1,6 +1,6 @@
 -- `output::write`: the tables of slots are filled, then the head and the parts are written. Assumes nothing.
 use native.Mathlib.Omega.{arith}
-use Rattle.rules.proofs.residence.Copied.{bytes-all}
+use Rattle.field.proofs.Reading.{bytes-all}
 use Rattle.output.proofs.Masks.{head-there}
 use Rattle.output.proofs.Stages.{slots-wanted, starts-wanted, lists-wanted, all-filled}
 use Rattle.output.proofs.Image.{parts-ready, image-put}

@@ -5,8 +5,9 @@ use mathlib.Core.Path.{sym, ap, _∙_}
 use mathlib.Core.List.{[]}
 use lib.ListN.{length, getD}
 use borrow.Author.Needs.{needs}
+use Rattle.paper.proofs.Outcomes.{as-refused}
 use Rattle.index.specs.Index.{setIn}
-use Rattle.rules.proofs.rows.Laws.{part-rows, row-there, offset-there}
+use Rattle.rows.proofs.Laws.{part-rows, row-there, offset-there}
 use Rattle.query.specs.Vertices.{boxIn}
 use Rattle.query.proofs.Accepted.{row-at, body-at, no-part, part-answer}
 use Rattle.query.proofs.Growing.{Left, start, more, done}
@@ -19,10 +20,18 @@ Inv-loop image offs starts n part rows extent₀ s₀ extent s = Left (getD (set
 abbrev μ-loop : tie.MeasureT-loop
 μ-loop image offs starts n part rows extent₀ s₀ extent s = rows - s
 
+nowhere-requires : tie.Need-nowhere-requires Inv-loop μ-loop
+nowhere-requires c κs = search needs
+
 returns : tie.Need-returns Inv-loop μ-loop
 returns c =
-    let pre = c .before .before .before .before .before .pre in
-    record { answer = sym (no-part _ _ (pre .sound) _ (omega (arith, c .if1 .taken, pre .indexed .count))) }
+    let taken = c .before in
+    let pre = taken .before .before .before .before .before .pre in
+    record {
+      answer =
+          as-refused (c .nowhere .ensures)
+          ∙ sym (no-part _ _ (pre .sound) _ (omega (arith, taken .if1 .taken, pre .indexed .count)));
+    }
 
 rows-in-requires : tie.Need-rows-in-requires Inv-loop μ-loop
 rows-in-requires c κs =
@@ -108,6 +117,7 @@ box-in-spec =
     (tie.spec
     Inv-loop
     μ-loop
+    nowhere-requires
     returns
     rows-in-requires
     loop-holds

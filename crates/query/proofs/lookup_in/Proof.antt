@@ -3,9 +3,10 @@ use Prim.Native.Nat.{_-_}
 use native.Mathlib.Omega.{arith}
 use mathlib.Core.Path.{refl, sym, _∙_}
 use borrow.Author.Needs.{needs}
+use Rattle.paper.proofs.Outcomes.{as-refused}
 use Rattle.index.specs.Index.{setIn}
 use Rattle.index.proofs.Answers.{hit, miss, searchable, hit-row}
-use Rattle.rules.proofs.rows.Laws.{row-there, offset-there}
+use Rattle.rows.proofs.Laws.{row-there, offset-there}
 use Rattle.query.proofs.Accepted.{in-order, lookup-is}
 use Rattle.query.proofs.Looking.{Left, over, later, here}
 use Rattle.query.proofs.lookup_in.Statement.{statement}
@@ -81,11 +82,20 @@ loop-again c =
     let pre = in-loop .before .before .before .before .before .before .before .pre in
     later _ (pre .0 .indexed) (pre .1) _ (in-loop .loop-test .taken) (in-loop .before .loop .inv) _ (miss _ _ (c .enum-told .given .1) (found .find .ensures))
 
+nowhere-requires : tie.Need-nowhere-requires Inv-loop μ-loop
+nowhere-requires c κs = search needs
+
 returns-2 : tie.Need-returns-2 Inv-loop μ-loop
 returns-2 c =
-    let start = c .before .before .before .before .before .before .before in
+    let left = c .before in
+    let start = left .before .before .before .before .before .before .before in
     let pre = start .pre in
-    record { answer = over _ (setIn (start .args .image .now)) (c .before .loop .p) (omega (arith, c .loop-test .left, pre .0 .indexed .count)) (c .before .loop .inv) ∙ sym (lookup-is _ _ (pre .0 .sound) _ _) }
+    record {
+      answer =
+          as-refused (c .nowhere .ensures)
+          ∙ over _ (setIn (start .args .image .now)) (left .before .loop .p) (omega (arith, left .loop-test .left, pre .0 .indexed .count)) (left .before .loop .inv)
+          ∙ sym (lookup-is _ _ (pre .0 .sound) _ _);
+    }
 
 pub lookup-in-spec : {M : Type 1} → statement M
 lookup-in-spec =
@@ -106,4 +116,5 @@ lookup-in-spec =
     add-p
     loop-less
     loop-again
+    nowhere-requires
     returns-2)

@@ -1,21 +1,20 @@
 -- `sound::copy_rule`: the copies that are named, then the names of the lowest copies, and only then row by row. Assumes nothing.
-use mathlib.Core.Path.{refl}
 use native.Mathlib.Omega.{arith}
-use Rattle.rules.specs.declared.Rule.the-variants.{Twins, Copies}
+use Rattle.paper.specs.declared.Rule.the-variants.{Copies}
 use borrow.Author.Needs.{needs}
 use Rattle.sound.proofs.Readiness.{early, for-entities}
-use Rattle.sound.proofs.Passes.{twins-fail, names-distinct, names-judged}
+use Rattle.sound.proofs.Behind.{twins-fail, names-distinct, names-judged}
 use Rattle.sound.proofs.copy_rule.Statement.{statement}
 use Rattle.sound.proofs.copy_rule.Tie as tie
 
 first-fault-requires : tie.Need-first-fault-requires
-first-fault-requires c κs = let ahead = c .before .before .before .before .before .before .before .pre in early (ahead .tables) Twins (omega arith) (ahead .passed)
+first-fault-requires c κs = let ahead = c .before .before .before .before .before .before .before .pre in early (ahead .tables) Copies (omega arith) (ahead .passed)
 
 enum-known-twins : tie.Need-enum-known-twins
 enum-known-twins c = search needs
 
 judge-rows-requires : tie.Need-judge-rows-requires
-judge-rows-requires c κs = let ahead = c .before .before .before .before .before .before .before .before .before .before .before .pre in (early (ahead .tables) Copies (omega arith) (ahead .passed), refl)
+judge-rows-requires c κs = let ahead = c .before .before .before .before .before .before .before .before .before .before .before .pre in early (ahead .tables) Copies (omega arith) (ahead .passed)
 
 returns : tie.Need-returns
 returns c =
@@ -43,7 +42,7 @@ returns-2 c =
     names-distinct (twins .before .before .before .before .before .before .before .before .pre) (listed .entities .ensures) _ (twins .first-fault .ensures) (told .enum-told .given .1) (c .if1 .taken)
 
 judge-rows-requires-2 : tie.Need-judge-rows-requires-2
-judge-rows-requires-2 c κs = let ahead = c .before .before .before .before .before .before .before .before .before .before .before .before .before .before .before .before .before .pre in (early (ahead .tables) Copies (omega arith) (ahead .passed), refl)
+judge-rows-requires-2 c κs = let ahead = c .before .before .before .before .before .before .before .before .before .before .before .before .before .before .before .before .before .pre in early (ahead .tables) Copies (omega arith) (ahead .passed)
 
 same-length-2 : tie.Need-same-length-2
 same-length-2 c = search needs

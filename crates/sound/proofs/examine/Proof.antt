@@ -11,8 +11,11 @@ use Rattle.sound.proofs.examine.Tie as tie
 head-requires : tie.Need-head-requires
 head-requires c κs = search needs
 
+nowhere-requires : tie.Need-nowhere-requires
+nowhere-requires c κs = search needs
+
 returns : tie.Need-returns
-returns c = head-refused _ _ _ _ _ _ _ (c .before .head .ensures) (c .if1 .taken)
+returns c = head-refused _ _ _ _ _ _ (c .before .before .head .ensures) (c .before .if1 .taken) _ (c .nowhere .ensures)
 
 walk-requires : tie.Need-walk-requires
 walk-requires c κs = search needs
@@ -22,6 +25,9 @@ enum-known-walked c = search needs
 
 enum-told : tie.Need-enum-told
 enum-told c = search needs
+
+nowhere-requires-2 : tie.Need-nowhere-requires-2
+nowhere-requires-2 c κs = search needs
 
 same-length : tie.Need-same-length
 same-length c = search needs
@@ -34,21 +40,26 @@ same-length-3 c = search needs
 
 returns-2 : tie.Need-returns-2
 returns-2 c =
-    let walk = c .before .before .before .before .before .before .before .before in
+    let told = c .before in
+    let walk = told .before .before .before .before .before .before .before .before in
     let passed = walk .before .before .before .before in
-    walk-refused _ _ _ _ _ _ (sym (passed .before .head .ensures) ∙ passed .if1 .left) (not-whole (walk .walk .ensures) (c .enum-told .given .1))
+    walk-refused _ _ _ _ _ (sym (passed .before .head .ensures) ∙ passed .if1 .left) (not-whole (walk .walk .ensures) (told .enum-told .given .1)) _ (c .nowhere2 .ensures)
 
 byte-at-requires : tie.Need-byte-at-requires
 byte-at-requires c κs =
-    let passed = c .before .before .before .before .before .before .before .before .before .before .before .before .before in
+    let walk = c .before .before .before .before .before .before .before .before .before in
+    let passed = walk .before .before .before .before in
     omega (arith, headed _ (sym (passed .before .head .ensures) ∙ passed .if1 .left) .long)
 
 all-rules-requires : tie.Need-all-rules-requires
 all-rules-requires c κs =
-    let count = c .before .before .before .before .before .before in
+    let count = c .before .before .before .before .before in
     let told = count .before .before in
     let walk = told .before .before .before .before .before .before .before .before in
-    (tables-of (whole (walk .walk .ensures) (told .walked .given .1)) (count .byte-at .ensures .0), rooms-kept (walk .before .before .before .before .before .before .before .before .before .before .before .before .before .pre) (walk .walk .ensures))
+    let head = walk .before .before .before .before .before in (
+      tables-of (whole (walk .walk .ensures) (told .walked .given .1)) (count .byte-at .ensures .0),
+      rooms-kept (head .before .before .before .before .before .before .before .pre) (walk .walk .ensures),
+    )
 
 enum-known-stage : tie.Need-enum-known-stage
 enum-known-stage c = search needs
@@ -71,17 +82,18 @@ same-length-7 c = search needs
 same-length-8 : tie.Need-same-length-8
 same-length-8 c = search needs
 
-same-length-9 : tie.Need-same-length-9
-same-length-9 c = search needs
-
 returns-3 : tie.Need-returns-3
 returns-3 c =
-    let rules = c .before .before .before .before .before .before .before .before .before in
-    let count = rules .before .before .before .before .before .before .before in
+    let told₂ = c .before in
+    let rules = told₂ .before .before .before .before .before .before in
+    let count = rules .before .before .before .before .before .before in
     let told = count .before .before in
     let walk = told .before .before .before .before .before .before .before .before in
     let passed = walk .before .before .before .before in
-    rules-refused (whole (walk .walk .ensures) (told .walked .given .1)) (count .byte-at .ensures .0) (sym (passed .before .head .ensures) ∙ passed .if1 .left) (rules .all-rules .ensures) _ (c .before .stage .given .1)
+    rules-refused (whole (walk .walk .ensures) (told .walked .given .1)) (count .byte-at .ensures .0) (sym (passed .before .head .ensures) ∙ passed .if1 .left) (rules .all-rules .ensures) _ (told₂ .stage .given .1)
+
+same-length-9 : tie.Need-same-length-9
+same-length-9 c = search needs
 
 same-length-10 : tie.Need-same-length-10
 same-length-10 c = search needs
@@ -95,16 +107,10 @@ same-length-12 c = search needs
 same-length-13 : tie.Need-same-length-13
 same-length-13 c = search needs
 
-same-length-14 : tie.Need-same-length-14
-same-length-14 c = search needs
-
-same-length-15 : tie.Need-same-length-15
-same-length-15 c = search needs
-
 returns-4 : tie.Need-returns-4
 returns-4 c =
-    let rules = c .before .before .before .before .before .before .before .before in
-    let count = rules .before .before .before .before .before .before .before in
+    let rules = c .before .before .before .before .before .before in
+    let count = rules .before .before .before .before .before .before in
     let told = count .before .before in
     let walk = told .before .before .before .before .before .before .before .before in
     let passed = walk .before .before .before .before in
@@ -115,10 +121,12 @@ examine-spec =
     tie.close
     (tie.spec
     head-requires
+    nowhere-requires
     returns
     walk-requires
     enum-known-walked
     enum-told
+    nowhere-requires-2
     same-length
     same-length-2
     same-length-3
@@ -132,12 +140,10 @@ examine-spec =
     same-length-6
     same-length-7
     same-length-8
-    same-length-9
     returns-3
+    same-length-9
     same-length-10
     same-length-11
     same-length-12
     same-length-13
-    same-length-14
-    same-length-15
     returns-4)

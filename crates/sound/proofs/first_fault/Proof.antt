@@ -1,23 +1,24 @@
+-- `sound::first_fault`: what is left of the parts and rows gives the answer, in both loops. Assumes nothing.
 use Prim.Native.Nat.{_-_}
 use native.Mathlib.Omega.{arith}
 use Rattle.index.specs.Index.{setIn}
-use Rattle.rules.specs.Judged.{judged}
-use Rattle.rules.proofs.rows.Laws.{part-rows}
+use Rattle.sound.specs.Faults.{tested}
+use Rattle.rows.proofs.Laws.{part-rows}
 use Rattle.sound.proofs.Loops.{AtPart, AtSlot, start, enter, skip, hit, leave, over}
 use Rattle.sound.proofs.first_fault.Statement.{statement}
 use Rattle.sound.proofs.first_fault.Tie as tie
 
 abbrev Inv-loop : tie.InvT-loop
-Inv-loop rule image offs keys starts covered counts n fault₀ p rows s₀ fault s = AtSlot (judged rule (setIn image)) (setIn image) p s fault
+Inv-loop test image offs starts keys covered counts n fault₀ p rows s₀ fault s = AtSlot (tested test (setIn image)) (setIn image) p s fault
 
 abbrev μ-loop : tie.MeasureT-loop
-μ-loop rule image offs keys starts covered counts n fault₀ p rows s₀ fault s = rows - s
+μ-loop test image offs starts keys covered counts n fault₀ p rows s₀ fault s = rows - s
 
 abbrev Inv-parts : tie.InvT-parts
-Inv-parts rule image offs keys starts covered counts n fault₀ p₀ fault p = AtPart (judged rule (setIn image)) (setIn image) p fault
+Inv-parts test image offs starts keys covered counts n fault₀ p₀ fault p = AtPart (tested test (setIn image)) (setIn image) p fault
 
 abbrev μ-parts : tie.MeasureT-parts
-μ-parts rule image offs keys starts covered counts n fault₀ p₀ fault p = n - p
+μ-parts test image offs starts keys covered counts n fault₀ p₀ fault p = n - p
 
 parts-holds : tie.Need-parts-holds Inv-loop μ-loop Inv-parts μ-parts
 parts-holds c = start

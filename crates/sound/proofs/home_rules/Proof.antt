@@ -1,10 +1,10 @@
 -- `sound::home_rules`: each table is filled before the rule that reads it. Assumes nothing.
-use mathlib.Core.Path.{refl}
 use native.Mathlib.Omega.{arith}
-use Rattle.rules.proofs.owner.Laws.{countable}
+use Rattle.residence.proofs.owner.Laws.{countable}
 use borrow.Author.Needs.{needs}
+use Rattle.paper.specs.declared.Rule.the-variants.{Residence}
 use Rattle.sound.proofs.Readiness.{for-residence, for-cover}
-use Rattle.sound.proofs.Passes.{homes-stop, owner-ready, homes-judged}
+use Rattle.sound.proofs.Behind.{homes-stop, owner-ready, homes-judged}
 use Rattle.sound.proofs.home_rules.Statement.{statement}
 use Rattle.sound.proofs.home_rules.Tie as tie
 
@@ -14,7 +14,7 @@ cover-requires c κs = for-cover (c .before .before .before .before .before .bef
 judge-rows-requires : tie.Need-judge-rows-requires
 judge-rows-requires c κs =
     let covers = c .before .before .before .before in
-    let ahead = covers .before .before .before .before .before .before .before .before .pre in (for-residence (ahead .tables) (ahead .passed) (covers .cover .ensures .covers), refl)
+    let ahead = covers .before .before .before .before .before .before .before .before .pre in (for-residence (ahead .tables) (ahead .passed) (covers .cover .ensures .covers))
 
 enum-known-residence : tie.Need-enum-known-residence
 enum-known-residence c = search needs
@@ -26,7 +26,7 @@ same-length-2 : tie.Need-same-length-2
 same-length-2 c = search needs
 
 returns : tie.Need-returns
-returns c = homes-stop _ _ _ 11 (c .before .before .before .judge-rows .ensures) _ (c .before .residence .given .1)
+returns c = homes-stop _ _ Residence (c .before .before .before .judge-rows .ensures) _ (c .before .residence .given .1)
 
 enum-told : tie.Need-enum-told
 enum-told c = search needs
@@ -43,7 +43,7 @@ judge-rows-requires-2 c κs =
     let judged = told .before .before in
     let covers = judged .before .before .before .before .before in
     let known = covers .before .before .before .before .before .before .before in
-    (owner-ready (known .before .pre) (covers .cover .ensures) (judged .judge-rows .ensures) (told .enum-told .given .1) (λ i. omega (arith, known .shared-slice-known .given i)) (counts .count-objects .ensures), refl)
+    (owner-ready (known .before .pre) (covers .cover .ensures) (judged .judge-rows .ensures) (told .enum-told .given .1) (λ i. omega (arith, known .shared-slice-known .given i)) (counts .count-objects .ensures))
 
 same-length-3 : tie.Need-same-length-3
 same-length-3 c = search needs

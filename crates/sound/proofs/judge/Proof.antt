@@ -1,9 +1,9 @@
--- `sound::judge`: each rule by its own function. Assumes nothing.
-use mathlib.Core.Path.{refl, sym}
+-- `sound::judge`: each test by its own function. Assumes nothing.
+use mathlib.Core.Path.{sym}
 use native.Mathlib.Omega.{arith}
 use borrow.Author.Needs.{needs}
-use Rattle.rules.proofs.rows.Laws.{part-there, row-there, offset-there}
-use Rattle.rules.proofs.residence.Copied.{index-own}
+use Rattle.rows.proofs.Laws.{part-there, row-there, offset-there}
+use Rattle.rows.proofs.Copied.{index-own}
 use Rattle.sound.proofs.Judging.{as-told, as-fields, as-order, told-ready, for-boundary, for-copies}
 use Rattle.sound.proofs.judge.Statement.{statement}
 use Rattle.sound.proofs.judge.Tie as tie
@@ -45,7 +45,7 @@ twins-requires : tie.Need-twins-requires
 twins-requires c κs =
     let ready = told-ready (c .enum-told4 .given .1) (c .before .before .before .before .before .before .before .before .pre .0) in
     let there = c .before .before .before .before .before .before .before .before .pre .1 .there in
-    (for-copies refl ready, there)
+    (for-copies ready, there)
 
 enum-told-5 : tie.Need-enum-told-5
 enum-told-5 c = search needs
@@ -54,7 +54,7 @@ copies-requires : tie.Need-copies-requires
 copies-requires c κs =
     let ready = told-ready (c .enum-told5 .given .1) (c .before .before .before .before .before .before .before .before .pre .0) in
     let there = c .before .before .before .before .before .before .before .before .pre .1 .there in
-    (for-copies refl ready, (sym (ready .indexed .count), there))
+    (for-copies ready, (sym (ready .indexed .count), there))
 
 enum-told-6 : tie.Need-enum-told-6
 enum-told-6 c = search needs
@@ -87,19 +87,19 @@ returns-2 c =
     as-order (ready .named) _ _ there (c .before .enum-told2 .given .1) (c .order .ensures)
 
 returns-3 : tie.Need-returns-3
-returns-3 c = as-told _ _ _ (c .before .enum-told3 .given .1) (c .boundary .ensures)
+returns-3 c = as-told (c .before .enum-told3 .given .1) _ _ _ (c .boundary .ensures)
 
 returns-4 : tie.Need-returns-4
-returns-4 c = as-told _ _ _ (c .before .enum-told4 .given .1) (c .twins .ensures)
+returns-4 c = as-told (c .before .enum-told4 .given .1) _ _ _ (c .twins .ensures)
 
 returns-5 : tie.Need-returns-5
-returns-5 c = as-told _ _ _ (c .before .enum-told5 .given .1) (c .copies .ensures)
+returns-5 c = as-told (c .before .enum-told5 .given .1) _ _ _ (c .copies .ensures)
 
 returns-6 : tie.Need-returns-6
-returns-6 c = as-told _ _ _ (c .before .enum-told6 .given .1) (c .residence .ensures)
+returns-6 c = as-told (c .before .enum-told6 .given .1) _ _ _ (c .residence .ensures)
 
 returns-7 : tie.Need-returns-7
-returns-7 c = as-told _ _ _ (c .before .enum-told7 .given .1) (c .owner .ensures)
+returns-7 c = as-told (c .before .enum-told7 .given .1) _ _ _ (c .owner .ensures)
 
 pub judge-spec : {M : Type 1} → statement M
 judge-spec =

@@ -1,7 +1,8 @@
 -- `writer::build_row`: front, body and remote slots. Assumes nothing.
 use native.Mathlib.Omega.{arith}
 use lib.ListN.{getD}
-use Rattle.writer.proofs.Rows.{own-pos, count-le, body-ready, row-written}
+use Rattle.part_set.proofs.Rank.{count-le}
+use Rattle.writer.proofs.Rows.{own-pos, body-ready, row-written}
 use borrow.Author.Needs.{needs}
 use Rattle.writer.proofs.build_row.Statement.{statement}
 use Rattle.writer.proofs.build_row.Tie as tie

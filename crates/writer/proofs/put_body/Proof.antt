@@ -4,7 +4,8 @@ use native.Mathlib.Omega.{arith}
 use mathlib.Core.Path.{ap, sym, _∙_}
 use lib.ListN.{take, drop, replicate}
 use lib.Seq.{sets}
-use Rattle.field.proofs.Stores.{sets-then, length-run}
+use Rattle.laws.proofs.Stores.{sets-then}
+use Rattle.field.proofs.Stores.{length-run}
 use Rattle.writer.specs.Entries.{entryOf}
 use Rattle.writer.proofs.Faces.{eachWord, each-length}
 use Rattle.writer.proofs.Rows.{body-vertex, body-faces}

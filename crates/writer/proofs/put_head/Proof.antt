@@ -1,7 +1,7 @@
 -- `writer::put_head`: four bytes and four bytes. Assumes nothing.
 use mathlib.Core.Path.{refl}
 use mathlib.Core.List.{[], _∷_}
-use Rattle.field.proofs.Stores.{sets-then}
+use Rattle.laws.proofs.Stores.{sets-then}
 use borrow.Author.Needs.{needs}
 use Rattle.writer.proofs.put_head.Statement.{statement}
 use Rattle.writer.proofs.put_head.Tie as tie

@@ -1,7 +1,0 @@
-pub mod Loops
-pub mod Compare
-pub mod Placed
-pub mod Shapes
-pub mod Remote
-pub mod Holders
-pub mod Distinct

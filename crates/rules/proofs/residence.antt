@@ -1,3 +1,0 @@
-pub mod Copied
-pub mod Names
-pub mod Laws
