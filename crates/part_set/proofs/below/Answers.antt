@@ -1,0 +1,19 @@
+-- `part_set::below`: the remainder by a power keeps the bits below. Assumes nothing.
+use borrow.Author.Rules.{rules}
+use mathlib.Core.Path.{ap, ◌∙◌}
+use Prim.Native.Nat.{ℕ, ◌%◌}
+use native.Mathlib.Omega.{arith}
+use lib.Pow.{pow_pos}
+use lib.Count.{ones}
+use Rattle.part_set.proofs.Rank.{rank_ones, rank_le}
+use Rattle.part_set.proofs.below.Goals as goal
+
+pub nonzero_rem-result : goal.nonzero_rem-result
+nonzero_rem-result c = omega (arith, c.single.ensures, pow_pos c.args.p)
+
+pub returns : goal.returns
+returns c =
+    let m = c.args.mask in
+    let p = c.args.p in
+    let e = ap (λ (x : ℕ). ones (m % x)) c.single.ensures ∙ rank_ones m p in
+    (e, omega (arith, e, rank_le m p))
