@@ -1,4 +1,6 @@
 // The public types of document 01. What each answer means is said in specs/Answers.antt, and how a box grows in specs/Box.antt.
+#![tactic(auto)]
+
 ghost use Rattle.std.specs.Prelude.{◌≡◌};
 ghost use Rattle.paper.specs.Outcome.{nowhere, at_row, at_entry, refusal};
 ghost use Rattle.paper.specs.Sound.{number_of};

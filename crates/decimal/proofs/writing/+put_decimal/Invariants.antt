@@ -1,0 +1,5 @@
+-- `decimal::writing::put_decimal` ends: the number falls. Assumes nothing.
+use Rattle.decimal.proofs.writing.+put_decimal.Given as goal
+
+abbrev pub decreases-put_decimal : goal.decreases-put_decimal
+decreases-put_decimal l = l.v
