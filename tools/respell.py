@@ -90,6 +90,7 @@ def of_library():
 def snake(part):
     if part[:1].isupper():
         return part
+    part = part.replace("getD", "get_or")  # as the library has it now
     return re.sub(r"([a-z0-9])([A-Z])", lambda m: m.group(1) + "_" + m.group(2).lower(), part)
 
 

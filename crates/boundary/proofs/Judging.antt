@@ -11,7 +11,7 @@ use borrow.Author.Tests.{lt-ltb}
 use Rattle.laws.specs.Lists.{In, every, some?, same, pairwise, ascending, insert, merge, unions}
 use Rattle.laws.proofs.Tests.{and_l, and_r, split2, split8, T_true, true_T}
 use Rattle.laws.proofs.Members.{every_in}
-use Rattle.laws.proofs.Agree.{map_same, get_d_map, every-same, some_of_map, pairwise_of_map}
+use Rattle.laws.proofs.Agree.{map_same, get_or_map, every-same, some_of_map, pairwise_of_map}
 use Rattle.laws.proofs.Ascending.{asc_head, asc_tail, asc_adjacent, asc_places, head_out}
 use Rattle.part_set.specs.Masks.{has}
 use Rattle.paper.specs.Image.{Row, no_row, row_at}
@@ -104,7 +104,7 @@ module _ {b offs starts keys : List ℕ} {p s : ℕ} {k : ℕ} (r : RowOf k b of
       asc_adjacent (map name_of_row rows) (λ t h.
       let n = length-map rows name_of_row in
       let l = ltb→lt (name_of_row (get_or rows t no_row)) (name_of_row (get_or rows (suc t) no_row)) (r.ahead.order p (suc t) (omega (arith, h, n))) in
-      omega (arith, l, get_d_map name_of_row rows t no_row 0 (omega (arith, h, n)), get_d_map name_of_row rows (suc t) no_row 0 (omega (arith, h, n))))
+      omega (arith, l, get_or_map name_of_row rows t no_row 0 (omega (arith, h, n)), get_or_map name_of_row rows (suc t) no_row 0 (omega (arith, h, n))))
 
   pub low : (t : ℕ) → t < length rows → dim_of t ≤ 3
   unfolding judged fields_fit row_at
@@ -126,7 +126,7 @@ module _ {b offs starts keys : List ℕ} {p s : ℕ} {k : ℕ} (r : RowOf k b of
   comes_before f d h e l =
       let n = length-map rows name_of_row in
       asc_places (map name_of_row rows) ascends f s (omega (arith, h, n)) (omega (arith, r.ahead.here, n))
-      (omega (arith, get_d_map name_of_row rows f no_row 0 h, get_d_map name_of_row rows s no_row 0 r.ahead.here, r.small f h, r.dim, e, l))
+      (omega (arith, get_or_map name_of_row rows f no_row 0 h, get_or_map name_of_row rows s no_row 0 r.ahead.here, r.small f h, r.dim, e, l))
 
   -- and passes
   passed : (f d : ℕ) → f < length rows → dim_of f ≡ suc d → suc d < k → T (faces_stand rows d (faces_at rows (suc d) f)) × T (slot_simplex rows (suc d) f)

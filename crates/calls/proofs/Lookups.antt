@@ -26,7 +26,7 @@ use Rattle.paper.specs.Move.{entry_part, all_entries}
 use Rattle.paper.specs.Lookup.{Found, is_named, home_of, lookup_of}
 use Rattle.paper.specs.Promises.{Checks, LooksUp}
 use Rattle.laws.proofs.Tests.{eq-eqb}
-use Rattle.laws.proofs.Members.{some_in, in_some, in_flat, flat_in, in_get_d, get_d_in, first_or_in, part_lt}
+use Rattle.laws.proofs.Members.{some_in, in_some, in_flat, flat_in, in_get_or, get_or_in, first_or_in, part_lt}
 use Rattle.part_set.proofs.MaskBits.{mask_of_is}
 use Rattle.part_set.proofs.MaskParts.{parts_in_in, in_parts_in, parts_in_ascends}
 use Rattle.part_set.proofs.OnePart.{has_single, pow_le}
@@ -97,7 +97,7 @@ module _ (b : List ℕ) (S : Set) (y : T (are_bytes b)) (a : Accepts b S) where
   row_in : (r : Row) → In r (flat S) → (q : ℕ) × (t : ℕ) × (t < length (get_or S q [])) × (r ≡ row S q t)
   row_in r i =
       let w = flat_in S r i in
-      let v = in_get_d (get_or S w.0 []) r no_row w.2 in
+      let v = in_get_or (get_or S w.0 []) r no_row w.2 in
       (w.0, v.0, v.1, v.2)
 
   -- every row says what the parts give to its name
@@ -120,7 +120,7 @@ module _ (b : List ℕ) (S : Set) (y : T (are_bytes b)) (a : Accepts b S) where
       let w = mesh_in (parts_of S) (is_fit b S y a) e i in
       let p = w.0 in
       let v = part_in S p e w.2 in
-      let t = in_some test (flat S) (row S p v.0) (in_flat S p (row S p v.0) (get_d_in (get_or S p []) v.0 no_row v.1))
+      let t = in_some test (flat S) (row S p v.0) (in_flat S p (row S p v.0) (get_or_in (get_or S p []) v.0 no_row v.1))
       (eq-eqb (name e) (name_of_row (row S p v.0)) (ap name v.2)) in
       let r = first_or no_row test (flat S) in
       let f = first_or_in no_row test (flat S) t in

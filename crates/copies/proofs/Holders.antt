@@ -11,8 +11,8 @@ use lib.Seq.{ext_get_or}
 use Rattle.laws.specs.Lists.{In, every, up_to, member}
 use Rattle.laws.proofs.Tests.{T_true, and_l, no_T}
 use Rattle.laws.proofs.Members.{in_map, map_in, member_in, in_member}
-use Rattle.laws.proofs.Ranges.{in_up_to, up_to_in, length_up_to, get_d_up_to}
-use Rattle.laws.proofs.Agree.{get_d_map, every-same}
+use Rattle.laws.proofs.Ranges.{in_up_to, up_to_in, length_up_to, get_or_up_to}
+use Rattle.laws.proofs.Agree.{get_or_map, every-same}
 use Rattle.field.specs.Bytes.{u64_at}
 use Rattle.part_set.specs.Masks.{has, others}
 use Rattle.paper.specs.Image.{Row, Set, no_row, row_at}
@@ -92,8 +92,8 @@ module _ {b offs starts keys : List ℕ} (ready : Ready b offs starts keys) wher
       ext_get_or 0 (map key (up_to n)) (map name_of_row rows) (long ∙ all ∙ sym (length-map rows name_of_row))
       (λ i l.
       let k : i < n = omega (arith, long) in
-      get_d_map key (up_to n) i 0 0 (omega (arith, length_up_to n)) ∙ ap key (get_d_up_to n i 0 k)
-      ∙ ready.names.key q i (omega (arith, all)) ∙ sym (get_d_map name_of_row rows i no_row 0 (omega (arith, all))))
+      get_or_map key (up_to n) i 0 0 (omega (arith, length_up_to n)) ∙ ap key (get_or_up_to n i 0 k)
+      ∙ ready.names.key q i (omega (arith, all)) ∙ sym (get_or_map name_of_row rows i no_row 0 (omega (arith, all))))
 
   module _ {p s o : ℕ} (st : Stands b p s o) {n mask name : ℕ} (parts : n ≡ length (set_in b)) (read : mask ≡ u64_at b (o + 8)) (called : name ≡ name_of_row (row_from b o)) where
     holders_are : holders_all_listed keys starts n mask name

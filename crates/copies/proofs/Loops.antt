@@ -9,7 +9,7 @@ use mathlib.Core.List.{List, [], ◌∷◌}
 use lib.ListN.{get_or, drop, drop_of_length-le}
 use lib.Seq.{drop-cons}
 use Rattle.laws.specs.Lists.{In, every, up_to}
-use Rattle.laws.proofs.Ranges.{length_up_to, get_d_up_to}
+use Rattle.laws.proofs.Ranges.{length_up_to, get_or_up_to}
 use Rattle.part_set.specs.Masks.{parts_in, lowest_of, Rest}
 use Rattle.part_set.proofs.Walk.{parts_none}
 
@@ -33,7 +33,7 @@ module _ (f : ℕ → Bool) where
   turn n i h =
       ap (every f) (drop-cons (up_to n) i 0 (omega (arith, length_up_to n)))
       ∙ every_cons (get_or (up_to n) i 0) (drop (suc i) (up_to n))
-      ∙ ap₂ (λ (x k : ℕ). f x && every f (drop k (up_to n))) (get_d_up_to n i 0 h) (sym (add-one i))
+      ∙ ap₂ (λ (x k : ℕ). f x && every f (drop k (up_to n))) (get_or_up_to n i 0 h) (sym (add-one i))
 
   pub left_start : (n : ℕ) → Left n 0
   left_start n = record { within = omega arith; same = refl }

@@ -10,9 +10,9 @@ use lib.Seq.{ext_get_or}
 use lib.Dec.{T, eqb, eqb→eq}
 use Rattle.laws.specs.Lists.{every, up_to, same}
 use Rattle.laws.proofs.Tests.{iff_eq, eq-eqb}
-use Rattle.laws.proofs.Members.{get_d_in, every_in, in_every}
+use Rattle.laws.proofs.Members.{get_or_in, every_in, in_every}
 use Rattle.laws.proofs.Ranges.{in_up_to, up_to_in}
-use Rattle.laws.proofs.Agree.{get_d_map}
+use Rattle.laws.proofs.Agree.{get_or_map}
 use Rattle.laws.proofs.Same.{same_eq, same_refl}
 use Rattle.field.specs.Bytes.{u8_at, u32_at, words, longs}
 use Rattle.field.proofs.Reading.{length-words}
@@ -53,7 +53,7 @@ module _ {b offs starts keys : List ℕ} (ready : Ready b offs starts keys) wher
     face_ok : (u32_at b (o + 24 + 4 * i) < length (get_or (set_in b) p [])) × ((get_or (get_or (set_in b) p []) (u32_at b (o + 24 + 4 * i)) no_row).dim ≡ d)
     face_ok =
         subst (λ (f : ℕ). (f < length (get_or (set_in b) p [])) × ((get_or (get_or (set_in b) p []) f no_row).dim ≡ d)) slot_read
-        ((row-faces (set_in b) (boundary_passed ready) p s d st.there is).there (get_or face_slots i 0) (get_d_in face_slots i 0 slot_there))
+        ((row-faces (set_in b) (boundary_passed ready) p s d st.there is).there (get_or face_slots i 0) (get_or_in face_slots i 0 slot_there))
 
     face_lt : get_or starts p 0 + u32_at b (o + 24 + 4 * i) < length keys
     face_lt = omega (arith, row_there ready.index p (u32_at b (o + 24 + 4 * i)) face_ok.0, ready.names.room)
@@ -64,7 +64,7 @@ module _ {b offs starts keys : List ℕ} (ready : Ready b offs starts keys) wher
         let rows = get_or (set_in b) p [] in
         ready.names.key p (u32_at b (o + 24 + 4 * i)) face_ok.0
         ∙ ap₂ (λ (x y : ℕ). name_of x y) face_ok.1
-        (sym (get_d_map (λ (f : ℕ). (get_or rows f no_row).number) face_slots i 0 0 slot_there ∙ ap (λ (f : ℕ). (get_or rows f no_row).number) slot_read))
+        (sym (get_or_map (λ (f : ℕ). (get_or rows f no_row).number) face_slots i 0 0 slot_there ∙ ap (λ (f : ℕ). (get_or rows f no_row).number) slot_read))
 
   -- the rows that a boundary names have keys
   there_at : {p s o : ℕ} → Stands b p s o → (d : ℕ) → (row_at (set_in b) p s).dim ≡ d → (i : ℕ) → 0 < d → i ≤ d → get_or starts p 0 + u32_at b (o + 24 + 4 * i) < length keys

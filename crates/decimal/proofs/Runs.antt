@@ -7,7 +7,7 @@ use mathlib.Core.List.{List, [], ◌∷◌, ◌++◌, map}
 use lib.ListN.{length, get_or, set, drop, length-append, drop_of_length-le}
 use lib.Seq.{sets, set_out, length-sets, drop-cons}
 use Rattle.laws.specs.Lists.{flat, up_to}
-use Rattle.laws.proofs.Ranges.{length_up_to, get_d_up_to}
+use Rattle.laws.proofs.Ranges.{length_up_to, get_or_up_to}
 use Rattle.laws.proofs.Stores.{sets_append, sets_then}
 use Rattle.decimal.specs.Writing.{Room, Wrote}
 
@@ -99,7 +99,7 @@ module _ (f : ℕ → List ℕ) (n : ℕ) where
   texts_next i h = record {
     is =
         ap (λ (l : List ℕ). flat (map f l)) (drop-cons (up_to n) i 0 (omega (arith, length_up_to n)))
-        ∙ ap₂ (λ (x k : ℕ). f x ++ flat (map f (drop k (up_to n)))) (get_d_up_to n i 0 h) (sym (add-one i));
+        ∙ ap₂ (λ (x k : ℕ). f x ++ flat (map f (drop k (up_to n)))) (get_or_up_to n i 0 h) (sym (add-one i));
   }
 
   pub texts_end : (i : ℕ) → n ≤ i → texts_from i ≡ []

@@ -11,11 +11,11 @@ use lib.ListN.{length, get_or, length-map}
 use lib.Dec.{T, eqb→eq, T_not}
 use Rattle.laws.specs.Lists.{In, every, keep, ascending, up_to, member}
 use Rattle.laws.proofs.Tests.{T_true, true_T, split2, or_either, eq-eqb}
-use Rattle.laws.proofs.Members.{every_in, map_in, in_map, in_member, keep_in, get_d_in, part_lt}
-use Rattle.laws.proofs.Agree.{get_d_map, map_of_map}
-use Rattle.laws.proofs.Ascending.{asc_head, asc_get_d, asc_keep, asc_map}
+use Rattle.laws.proofs.Members.{every_in, map_in, in_map, in_member, keep_in, get_or_in, part_lt}
+use Rattle.laws.proofs.Agree.{get_or_map, map_of_map}
+use Rattle.laws.proofs.Ascending.{asc_head, asc_get_or, asc_keep, asc_map}
 use Rattle.laws.proofs.Keyed.{ascends_uniq}
-use Rattle.laws.proofs.Ranges.{length_up_to, get_d_up_to, up_to_in, in_up_to, asc_up_to}
+use Rattle.laws.proofs.Ranges.{length_up_to, get_or_up_to, up_to_in, in_up_to, asc_up_to}
 use Rattle.part_set.specs.Masks.{has, others, parts_in, lowest_of}
 use Rattle.part_set.proofs.MaskParts.{parts_in_ascends, in_parts_in}
 use Rattle.merge.specs.Runs.{key_in}
@@ -95,9 +95,9 @@ names_up S order p a c l h =
     let n = length-map rows name_of_row in
     omega (
       arith,
-      asc_get_d (map name_of_row rows) (ordered_names S order p) a c l (omega (arith, n)),
-      get_d_map name_of_row rows a no_row 0 (omega arith),
-      get_d_map name_of_row rows c no_row 0 h,
+      asc_get_or (map name_of_row rows) (ordered_names S order p) a c l (omega (arith, n)),
+      get_or_map name_of_row rows a no_row 0 (omega arith),
+      get_or_map name_of_row rows c no_row 0 h,
     )
 
 -- ---- rule 10, the other half
@@ -111,7 +111,7 @@ holder S copies p s q t hs ht e =
     let c = split2 (every (twin_agrees S p s) (others r.mask p))
     (every (λ q. not (member (name_of_row r) (map name_of_row (get_or S q []))) || has r.mask q) (up_to (length S))) (copies p s hs) in
     let w = get_or (get_or S q []) t no_row in
-    let i : In w (get_or S q []) = get_d_in (get_or S q []) t no_row ht in
+    let i : In w (get_or S q []) = get_or_in (get_or S q []) t no_row ht in
     let m : T (member (name_of_row r) (map name_of_row (get_or S q []))) =
     subst (λ (k : ℕ). T (member k (map name_of_row (get_or S q [])))) (sym e) (in_member (name_of_row w) (map name_of_row (get_or S q [])) (in_map name_of_row (get_or S q []) w i)) in
     go m (or_either (not (member (name_of_row r) (map name_of_row (get_or S q [])))) (has r.mask q)
@@ -170,7 +170,7 @@ module _ {b offs starts keys : List ℕ} {n : ℕ} (index : Indexed b offs start
   in_run i g j =
       let f = low_rows (set_in b) starts in
       let l : i < length (up_to n) = omega (arith, part_lt (map f (up_to n)) i g j, length-map (up_to n) f) in
-      let e : get_or (map f (up_to n)) i [] ≡ f i = get_d_map f (up_to n) i 0 [] l ∙ ap f (get_d_up_to n i 0 (omega (arith, l, length_up_to n))) in
+      let e : get_or (map f (up_to n)) i [] ≡ f i = get_or_map f (up_to n) i 0 [] l ∙ ap f (get_or_up_to n i 0 (omega (arith, l, length_up_to n))) in
       subst (λ (xs : List ℕ). In g xs) e j
 
   -- two lowest copies in different parts have different names

@@ -7,7 +7,7 @@ use lib.ListN.{length, get_or, take}
 use lib.Seq.{get_or-take, length-take-le}
 use lib.Dec.{T}
 use Rattle.laws.specs.Lists.{In, keep, flat, up_to, ascending}
-use Rattle.laws.proofs.Members.{map_in, in_map, keep_in, in_keep, flat_map_in, in_flat_map, get_d_in}
+use Rattle.laws.proofs.Members.{map_in, in_map, keep_in, in_keep, flat_map_in, in_flat_map, get_or_in}
 use Rattle.laws.proofs.Ranges.{up_to_in, in_up_to}
 use Rattle.merge.specs.Runs.{key_in, Runs, Merged}
 use Rattle.merge.specs.Runs as R
@@ -62,7 +62,7 @@ module _ {S : Set} {starts keys ord tmp ord' tmp' : List ℕ} {n : ℕ} {r : Lis
   entry_low i h =
       let xs = take r.count ord' in
       let l : i < length xs = omega (arith, length-take-le r.count ord' e.within) in
-      let j : In (get_or ord' i 0) xs = rw (get_or-take r.count ord' i 0 h) at (get_d_in xs i 0 l) in
+      let j : In (get_or ord' i 0) xs = rw (get_or-take r.count ord' i 0 h) at (get_or_in xs i 0 l) in
       listed_low S starts keys n (get_or ord' i 0) (subst (λ (ys : List ℕ). In (get_or ord' i 0) ys) e.rows j)
 
   pub low_entry : (p s : ℕ) → p < n → s < length (get_or S p []) → T (is_low S p s) → In (get_or starts p 0 + s) (take r.count ord')
@@ -81,7 +81,7 @@ module _ {b offs starts : List ℕ} {n : ℕ} (ready : FieldsReadable b offs sta
   named_each : (k : ℕ) → k < t → get_or ord' k 0 < length keys
   named_each k h =
       let l : k < length (take t ord') = omega (arith, length-take-le t ord' (omega (arith, gathered_few, g.same_ord))) in
-      let i : In (get_or (take t ord') k 0) (take t ord') = get_d_in (take t ord') k 0 l in
+      let i : In (get_or (take t ord') k 0) (take t ord') = get_or_in (take t ord') k 0 l in
       let j : In (get_or ord' k 0) (flat (low_runs (set_in b) starts n)) = subst (λ (z : ℕ). In z (flat (low_runs (set_in b) starts n))) (get_or-take t ord' k 0 h) (subst (λ (xs : List ℕ). In (get_or (take t ord') k 0) xs) gathered_front i) in
       let w = runs_in (set_in b) starts n (get_or ord' k 0) j in
       omega (arith, w.is, row_listed ready w.part w.slot w.there, named.room)

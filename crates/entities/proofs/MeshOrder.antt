@@ -10,8 +10,8 @@ use lib.Seq.{get_or-take, length-take-le}
 use lib.Dec.{T, eqb, eqb→eq, T_not}
 use Rattle.laws.specs.Lists.{In, flat}
 use Rattle.laws.proofs.Tests.{decide, eq-eqb}
-use Rattle.laws.proofs.Members.{map_in, in_map, in_flat, flat_in, get_d_in}
-use Rattle.laws.proofs.Agree.{get_d_map}
+use Rattle.laws.proofs.Members.{map_in, in_map, in_flat, flat_in, get_or_in}
+use Rattle.laws.proofs.Agree.{get_or_map}
 use Rattle.laws.proofs.Keyed.{asc_ext}
 use Rattle.part_set.specs.Masks.{has, lowest_of}
 use Rattle.part_set.proofs.MaskParts.{parts_in_in, in_others}
@@ -152,8 +152,8 @@ module _ {b offs starts keys : List ℕ} {n : ℕ} (index : Indexed b offs start
     same_name i h =
         let xs = take r.count ord' in
         let l : i < length xs = omega (arith, length-take-le r.count ord' e.within) in
-        ap (key_in keys) (sym (get_or-take r.count ord' i 0 h)) ∙ sym (get_d_map (key_in keys) xs i 0 0 l) ∙ ap (λ (ks : List ℕ). get_or ks i 0) entities_mesh
-        ∙ get_d_map name (mesh_of (parts_of (set_in b))) i no_ent 0 (omega (arith, entities_count))
+        ap (key_in keys) (sym (get_or-take r.count ord' i 0 h)) ∙ sym (get_or_map (key_in keys) xs i 0 0 l) ∙ ap (λ (ks : List ℕ). get_or ks i 0) entities_mesh
+        ∙ get_or_map name (mesh_of (parts_of (set_in b))) i no_ent 0 (omega (arith, entities_count))
 
     pub entity_at : (i : ℕ) → i < r.count → EntityAt (set_in b) starts ord' i
     unfolding row_at
@@ -168,5 +168,5 @@ module _ {b offs starts keys : List ℕ} {n : ℕ} (index : Indexed b offs start
           low = low_lowest S w.part w.slot w.low;
           is = w.is;
           entity = mesh-one S f (ent S w.part w.slot) (get_or (mesh_of (parts_of S)) i no_ent) (in_mesh S f w.part w.slot w.there)
-              (get_d_in (mesh_of (parts_of S)) i no_ent (omega (arith, entities_count))) (sym (key_name (get_or ord' i 0) w) ∙ same_name i h);
+              (get_or_in (mesh_of (parts_of S)) i no_ent (omega (arith, entities_count))) (sym (key_name (get_or ord' i 0) w) ∙ same_name i h);
         }

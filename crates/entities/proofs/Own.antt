@@ -10,7 +10,7 @@ use lib.ListN.{length, get_or}
 use lib.Dec.{T, leb, ltb, eqb}
 use Rattle.laws.specs.Lists.{In}
 use Rattle.laws.proofs.Tests.{split8}
-use Rattle.laws.proofs.Members.{get_d_in, part_lt}
+use Rattle.laws.proofs.Members.{get_or_in, part_lt}
 use Rattle.field.specs.Bytes.{u64_at}
 use borrow.Author.Tests.{eq-eqb, ne_eqb}
 use Rattle.part_set.specs.Masks.{has, parts_in, lowest_of}
@@ -41,7 +41,7 @@ module _ (S : Set) (fields : Passed Fields S) (p s : ℕ) (h : s < length (get_o
   own = own_bit (length S) p (row_at S p s) (fields p s h)
 
   pub own_in : length S ≤ 64 → In p (parts_in (row_at S p s).mask)
-  own_in few = let l = part_lt S p (get_or (get_or S p []) s no_row) (get_d_in (get_or S p []) s no_row h) in in_parts_in (row_at S p s).mask p (omega arith) own
+  own_in few = let l = part_lt S p (get_or (get_or S p []) s no_row) (get_or_in (get_or S p []) s no_row h) in in_parts_in (row_at S p s).mask p (omega arith) own
 
 -- what is read of row s of part p
 module _ {b offs starts : List ℕ} {n : ℕ} (ready : FieldsReadable b offs starts n) (p s : ℕ) (h : s < length (get_or (set_in b) p [])) where

@@ -34,8 +34,8 @@ module _ (b : List ℕ) (at n : ℕ) (h : at + n ≤ length b) where
   pub length_run : length (take n (drop at b)) ≡ n
   length_run = simp (length-take, length-drop) (omega arith)
 
-  pub get_d_run : (i : ℕ) → i < n → get_or (take n (drop at b)) i 0 ≡ get_or b (at + i) 0
-  get_d_run i l = rw (get_or-take, get_or-drop)
+  pub get_or_run : (i : ℕ) → i < n → get_or (take n (drop at b)) i 0 ≡ get_or b (at + i) 0
+  get_or_run i l = rw (get_or-take, get_or-drop)
 
 -- ---- what a run leaves: read back, and as it was around it
 

@@ -8,9 +8,9 @@ use lib.ListN.{length, get_or, drop, length-map}
 use lib.Dec.{T, eqb}
 use Rattle.laws.specs.Lists.{In, index_of}
 use Rattle.laws.proofs.Tests.{T_true, eq-eqb, ne_eqb}
-use Rattle.laws.proofs.Members.{get_d_in, map_in}
-use Rattle.laws.proofs.Agree.{get_d_map}
-use Rattle.laws.proofs.Places.{index_get_d}
+use Rattle.laws.proofs.Members.{get_or_in, map_in}
+use Rattle.laws.proofs.Agree.{get_or_map}
+use Rattle.laws.proofs.Places.{index_get_or}
 use Rattle.field.specs.Bytes.{u32_at, u64_at}
 use Rattle.part_set.specs.Masks.{has, parts_in, others, lowest_of}
 use Rattle.part_set.proofs.MaskParts.{others_in, others-ascends, others-count}
@@ -56,8 +56,8 @@ module _ (S : Set) (f : Sound S) (p s : ℕ) (h : s < length (get_or S p [])) wh
   unfolding slot_in ent_of
   entity_index i l e =
       let es = mesh_of (parts_of S) in
-      ap (λ (k : ℕ). index_of k (map name es)) (ap name e ∙ sym (get_d_map name es i no_ent 0 l))
-      ∙ index_get_d (map name es) (mesh-ascends (parts_of S)) i (omega (arith, length-map es name))
+      ap (λ (k : ℕ). index_of k (map name es)) (ap name e ∙ sym (get_or_map name es i no_ent 0 l))
+      ∙ index_get_or (map name es) (mesh-ascends (parts_of S)) i (omega (arith, length-map es name))
 
 -- ---- the slots that a row names
 
@@ -119,10 +119,10 @@ module _ {b offs starts : List ℕ} {n : ℕ} (index : Indexed b offs starts n) 
   unfolding copy_slot remote_slot_of
   slot_read k l =
       let r = get_or (others m p) k 0 in
-      let w = others_in m p r (get_d_in (others m p) k 0 l) in
+      let w = others_in m p r (get_or_in (others m p) k 0 l) in
       sym (row_slot b o k (subst (λ (x : Row). k < remotes x.mask) row_is (omega (arith, few))))
       ∙ ap (λ (x : Row). get_or x.slots k 0) (sym row_is)
-      ∙ ap (λ (j : ℕ). get_or (row S p s).slots j 0) (sym (index_get_d (others m p) (others-ascends m p) k l))
+      ∙ ap (λ (j : ℕ). get_or (row S p s).slots j 0) (sym (index_get_or (others m p) (others-ascends m p) k l))
       ∙ sym (ap (λ (x : Bool). cond x s (remote_slot_of (row S p s) p r)) (ne_eqb r p w.2))
 
   room_here : o + row_length_of m ≤ length b

@@ -12,7 +12,7 @@ use mathlib.Core.Option.{none}
 use lib.ListN.{length, get_or, drop}
 use lib.Dec.{T, ltb→lt}
 use Rattle.laws.specs.Lists.{member}
-use Rattle.laws.proofs.Members.{member_in, map_in, in_get_d}
+use Rattle.laws.proofs.Members.{member_in, map_in, in_get_or}
 use Rattle.laws.proofs.Tests.{no_T}
 use Rattle.field.specs.Bytes.{u8_at}
 use Rattle.paper.specs.Image.{Row, no_row, walk_parts, row_at}
@@ -115,7 +115,7 @@ module _ {b offs starts : List ℕ} {n : ℕ} (ix : Indexed b offs starts n) whe
             no_T (member x (map name_of_row (get_or (set_in b) p [])))
             (λ m.
             let r = map_in name_of_row (get_or (set_in b) p []) x (member_in x (map name_of_row (get_or (set_in b) p [])) m) in
-            let w = in_get_d (get_or (set_in b) p []) r.0 no_row r.1 in
+            let w = in_get_or (get_or (set_in b) p []) r.0 no_row r.1 in
             miss-name w.0 w.1 (sym (r.2 ∙ ap name_of_row w.2)))
 
         -- the rows before the slot have lesser names, and the others greater

@@ -25,21 +25,21 @@ u64_take n b i h = ap₂ (λ (x y : ℕ). x + 2 ^ 32 * y) (u32_take n b i (omega
 
 -- ---- numbers one after the other
 
-pub get_d_words : (k : ℕ) (b : List ℕ) (i : ℕ) → i < k → get_or (words k b) i 0 ≡ u32_at b (4 * i)
+pub get_or_words : (k : ℕ) (b : List ℕ) (i : ℕ) → i < k → get_or (words k b) i 0 ≡ u32_at b (4 * i)
 unfolding words
-get_d_words zero b i h = absurd (not-suc-le-zero h)
-get_d_words (suc k) b zero h = refl
-get_d_words (suc k) b (suc i) h =
+get_or_words zero b i h = absurd (not-suc-le-zero h)
+get_or_words (suc k) b zero h = refl
+get_or_words (suc k) b (suc i) h =
     let e : 4 + 4 * i ≡ 4 * suc i = omega arith in
-    get_d_words k (drop 4 b) i (omega arith) ∙ u32_drop b 4 (4 * i) ∙ ap (u32_at b) e
+    get_or_words k (drop 4 b) i (omega arith) ∙ u32_drop b 4 (4 * i) ∙ ap (u32_at b) e
 
-pub get_d_longs : (k : ℕ) (b : List ℕ) (i : ℕ) → i < k → get_or (longs k b) i 0 ≡ u64_at b (8 * i)
+pub get_or_longs : (k : ℕ) (b : List ℕ) (i : ℕ) → i < k → get_or (longs k b) i 0 ≡ u64_at b (8 * i)
 unfolding longs
-get_d_longs zero b i h = absurd (not-suc-le-zero h)
-get_d_longs (suc k) b zero h = refl
-get_d_longs (suc k) b (suc i) h =
+get_or_longs zero b i h = absurd (not-suc-le-zero h)
+get_or_longs (suc k) b zero h = refl
+get_or_longs (suc k) b (suc i) h =
     let e : 8 + 8 * i ≡ 8 * suc i = omega arith in
-    get_d_longs k (drop 8 b) i (omega arith) ∙ u64_drop b 8 (8 * i) ∙ ap (u64_at b) e
+    get_or_longs k (drop 8 b) i (omega arith) ∙ u64_drop b 8 (8 * i) ∙ ap (u64_at b) e
 
 -- ---- the fields
 
@@ -87,19 +87,19 @@ module _ (b : List ℕ) (o : ℕ) where
   -- word i of the body, of which there are 6 or fewer
   pub row_word : (k i : ℕ) → i < k → k ≤ 6 → get_or (words k (row_from b o).body) i 0 ≡ u32_at b (o + 24 + 4 * i)
   row_word k i h few =
-      get_d_words k (row_from b o).body i h ∙ ap (λ (l : List ℕ). u32_at l (4 * i)) row_body
+      get_or_words k (row_from b o).body i h ∙ ap (λ (l : List ℕ). u32_at l (4 * i)) row_body
       ∙ u32_take 24 (drop (o + 24) b) (4 * i) (omega arith) ∙ u32_drop b (o + 24) (4 * i)
 
   -- long i of the body, of which there are 3 or fewer
   pub row_long : (k i : ℕ) → i < k → k ≤ 3 → get_or (longs k (row_from b o).body) i 0 ≡ u64_at b (o + 24 + 8 * i)
   row_long k i h few =
-      get_d_longs k (row_from b o).body i h ∙ ap (λ (l : List ℕ). u64_at l (8 * i)) row_body
+      get_or_longs k (row_from b o).body i h ∙ ap (λ (l : List ℕ). u64_at l (8 * i)) row_body
       ∙ u64_take 24 (drop (o + 24) b) (8 * i) (omega arith) ∙ u64_drop b (o + 24) (8 * i)
 
   -- remote slot i
   pub row_slot : (i : ℕ) → i < remotes (row_from b o).mask → get_or (row_from b o).slots i 0 ≡ u32_at b (o + 48 + 4 * i)
   row_slot i h =
-      ap (λ (l : List ℕ). get_or l i 0) row-slots ∙ get_d_words (remotes (row_from b o).mask) (drop (o + 48) b) i h
+      ap (λ (l : List ℕ). get_or l i 0) row-slots ∙ get_or_words (remotes (row_from b o).mask) (drop (o + 48) b) i h
       ∙ u32_drop b (o + 48) (4 * i)
 
 -- ---- how long a row is

@@ -11,7 +11,7 @@ use lib.ListN
 use lib.ListN.{length, get_or, drop, length-append, length-map, get_or-append}
 use lib.Seq.{sets, sets-eq, length-sets, get_or-append-add}
 use Rattle.laws.specs.Lists.{flat}
-use Rattle.laws.proofs.Members.{get_d_in, in_flat}
+use Rattle.laws.proofs.Members.{get_or_in, in_flat}
 use Rattle.field.specs.Bytes.{u8_at, u32_at}
 use Rattle.paper.specs.Image.{Row, Set, no_row, row_length_of, walk_parts, row_at, row_total}
 use Rattle.paper.specs.Sound.{max_image, name_of_row}
@@ -19,13 +19,13 @@ use Rattle.index.specs.Index.{row_from, set_in, max_rows, Indexed, Named}
 use Rattle.index.specs.Places.{length_at, name_from, row_offs, part_end, parts_end, part_offs, starts_of}
 use Rattle.index.proofs.RowFields.{row_mask}
 use Rattle.index.proofs.Bridge.{rows_end_room, parts_within, length-row_offs, length-part_offs, parts_at, parts_there}
-use Rattle.laws.proofs.Agree.{get_d_map}
+use Rattle.laws.proofs.Agree.{get_or_map}
 
 -- ---- lists of lists
 
 -- a table that got vs from its first entry on reads as vs
-pub get_d_sets : {A : Type 0} (l vs : List A) (j : ℕ) (d : A) → length vs ≤ length l → j < length vs → get_or (sets l 0 vs) j d ≡ get_or vs j d
-get_d_sets {A} l vs j d fits h =
+pub get_or_sets : {A : Type 0} (l vs : List A) (j : ℕ) (d : A) → length vs ≤ length l → j < length vs → get_or (sets l 0 vs) j d ≡ get_or vs j d
+get_or_sets {A} l vs j d fits h =
     ap (λ (t : List A). get_or t j d) (sets-eq vs l 0 (rw zero-add fits)) ∙ get_or-append vs (drop (0 + length vs) l) d j h
 
 module _ {A : Type 0} where
@@ -99,14 +99,14 @@ parts_room (suc n) b o =
 
 module _ (b : List ℕ) (O : List (List ℕ)) (p s : ℕ) where
   part-rows : get_or (map (map (row_from b)) O) p [] ≡ map (row_from b) (get_or O p [])
-  part-rows = ListN.get_d_map (map (row_from b)) O p []
+  part-rows = ListN.get_or-map (map (row_from b)) O p []
 
   part_length : length (get_or (map (map (row_from b)) O) p []) ≡ length (get_or O p [])
   part_length = ap length part-rows ∙ length-map (get_or O p []) (row_from b)
 
   row_at_lem : s < length (get_or O p []) → row_at (map (map (row_from b)) O) p s ≡ row_from b (get_or (get_or O p []) s 0)
   unfolding row_at
-  row_at_lem h = ap (λ (rows : List Row). get_or rows s no_row) part-rows ∙ get_d_map (row_from b) (get_or O p []) s 0 no_row h
+  row_at_lem h = ap (λ (rows : List Row). get_or rows s no_row) part-rows ∙ get_or_map (row_from b) (get_or O p []) s 0 no_row h
 
 -- ---- the index
 
@@ -132,14 +132,14 @@ module _ (b : List ℕ) (n : ℕ) (is : n ≡ u8_at b 5) (full : parts_end n b 8
     offs_at : (p s : ℕ) → s < length (get_or (part_offs n b 8) p [])
         → get_or (sets offs₀ 0 (flat (part_offs n b 8))) (before (part_offs n b 8) p + s) 0 ≡ get_or (get_or (part_offs n b 8) p []) s 0
     offs_at p s h =
-        get_d_sets offs₀ (flat (part_offs n b 8)) (before (part_offs n b 8) p + s) 0 (omega (arith, total_few)) (flat_lt (part_offs n b 8) p s h)
+        get_or_sets offs₀ (flat (part_offs n b 8)) (before (part_offs n b 8) p + s) 0 (omega (arith, total_few)) (flat_lt (part_offs n b 8) p s h)
         ∙ flat_at (part_offs n b 8) p s 0 h
 
     start_at : (p : ℕ) → p ≤ n → get_or (sets starts₀ 0 (starts_of 0 (part_offs n b 8))) p 0 ≡ before (part_offs n b 8) p
     start_at p h =
         let long = length_starts 0 (part_offs n b 8) in
         let count = length-part_offs n b 8 in
-        get_d_sets starts₀ (starts_of 0 (part_offs n b 8)) p 0 (omega (arith, long, count)) (omega (arith, long, count))
+        get_or_sets starts₀ (starts_of 0 (part_offs n b 8)) p 0 (omega (arith, long, count)) (omega (arith, long, count))
         ∙ starts_at 0 (part_offs n b 8) p (omega (arith, count)) ∙ zero-add (before (part_offs n b 8) p)
 
     part_len : (p s : ℕ) → s < length (get_or (set_in b) p []) → s < length (get_or (part_offs n b 8) p [])
@@ -160,7 +160,7 @@ module _ (b : List ℕ) (n : ℕ) (is : n ≡ u8_at b 5) (full : parts_end n b 8
     row_there p s h =
         let o = get_or (get_or (part_offs n b 8) p []) s 0 in
         let e : row_length_of (row_at (set_in b) p s).mask ≡ length_at b o = ap (λ (r : Row). row_length_of r.mask) (row_of p s h) ∙ ap row_length_of (row_mask b o) in
-        let i = in_flat (part_offs n b 8) p o (get_d_in (get_or (part_offs n b 8) p []) s 0 (part_len p s h)) in
+        let i = in_flat (part_offs n b 8) p o (get_or_in (get_or (part_offs n b 8) p []) s 0 (part_len p s h)) in
         omega (arith, e, full, parts_within n b 8 o i)
 
     pub indexed : Indexed b (sets offs₀ 0 (flat (part_offs n b 8))) (sets starts₀ 0 (starts_of 0 (part_offs n b 8))) n
@@ -196,8 +196,8 @@ module _ (b : List ℕ) (n : ℕ) (is : n ≡ u8_at b 5) (full : parts_end n b 8
           let i = before (part_offs n b 8) p + s in
           let l = flat_lt (part_offs n b 8) p s g in
           ap (λ (k : ℕ). get_or (sets keys₀ 0 names) (k + s) 0) e
-          ∙ get_d_sets keys₀ names i 0 (omega (arith, long, total_few)) (omega (arith, long, l))
-          ∙ get_d_map (name_from b) (flat (part_offs n b 8)) i 0 0 l
+          ∙ get_or_sets keys₀ names i 0 (omega (arith, long, total_few)) (omega (arith, long, l))
+          ∙ get_or_map (name_from b) (flat (part_offs n b 8)) i 0 0 l
           ∙ ap (name_from b) (flat_at (part_offs n b 8) p s 0 g)
           ∙ ap name_of_row (sym (row_of p s h));
     }

@@ -9,7 +9,7 @@ use lib.ListN.{length, get_or}
 use lib.Dec.{eqb, ltb, ltb→lt, eqb→eq}
 use Rattle.laws.specs.Lists.{In}
 use Rattle.laws.proofs.Tests.{split2}
-use Rattle.laws.proofs.Members.{get_d_in}
+use Rattle.laws.proofs.Members.{get_or_in}
 use Rattle.field.specs.Bytes.{u8_at, u32_at}
 use Rattle.field.proofs.Reading.{length-words}
 use Rattle.paper.specs.Image.{Row, no_row, row_at}
@@ -95,7 +95,7 @@ pub face_markable : {b offs starts : List ℕ} {p s d q : ℕ} {w : List ℕ} �
 face_markable {b} {offs} {starts} {p} {s} {d} {q} {w} m solid i f w' l e long closed =
     let fs = slots_named (row_at (set_in b) p s) in
     let there : i < length fs = omega (arith, named_count m.known m.dim solid) in
-    let k = face_known m.known (subst (λ (x : ℕ). In x fs) (sym e) (get_d_in fs i 0 there)) in
+    let k = face_known m.known (subst (λ (x : ℕ). In x fs) (sym e) (get_or_in fs i 0 there)) in
     record {
       known = record { readable = m.known.readable; here = k.0 };
       dim = omega (arith, k.1, m.dim);

@@ -8,9 +8,9 @@ use lib.ListN.{length, get_or, take, length-map}
 use lib.Seq.{get_or-take, length-take-le}
 use lib.Dec.{T, eqb}
 use Rattle.laws.specs.Lists.{In, flat, ascending}
-use Rattle.laws.proofs.Members.{in_map, in_flat, flat_in, in_get_d}
-use Rattle.laws.proofs.Agree.{get_d_map}
-use Rattle.laws.proofs.Ascending.{asc_get_d}
+use Rattle.laws.proofs.Members.{in_map, in_flat, flat_in, in_get_or}
+use Rattle.laws.proofs.Agree.{get_or_map}
+use Rattle.laws.proofs.Ascending.{asc_get_or}
 use Rattle.merge.specs.Runs.{key_in}
 use Rattle.paper.specs.Image.{row_at}
 use Rattle.paper.specs.Mesh.{name, ent_of, parts_of, mesh_of, is_object, holds}
@@ -51,7 +51,7 @@ module _ {b offs starts keys covered : List ℕ} {n : ℕ} (index : Indexed b of
   name_is i h =
       let xs = take r.count ord' in
       let l : i < length xs = omega (arith, length-take-le r.count ord' e.within) in
-      get_d_map (key_in keys) xs i 0 0 l ∙ ap (key_in keys) (get_or-take r.count ord' i 0 h)
+      get_or_map (key_in keys) xs i 0 0 l ∙ ap (key_in keys) (get_or-take r.count ord' i 0 h)
 
   ascends : T (ascending names)
   unfolding names mesh_of
@@ -68,7 +68,7 @@ module _ {b offs starts keys covered : List ℕ} {n : ℕ} (index : Indexed b of
   listing = record {
     within = e.within;
     row = λ j h. let w = at j h in omega (arith, w.is, row_there index w.part w.slot w.there, named.room);
-    up = λ i j g h. omega (arith, asc_get_d names ascends i j g (omega (arith, names_count)), name_is i (omega arith), name_is j h);
+    up = λ i j g h. omega (arith, asc_get_or names ascends i j g (omega (arith, names_count)), name_is i (omega arith), name_is j h);
   }
 
   is_held : (p s : ℕ) → s < length (get_or (set_in b) p []) → T (holds (flat (parts_of (set_in b))) (name_of_row (row_at (set_in b) p s)))
@@ -88,7 +88,7 @@ module _ {b offs starts keys covered : List ℕ} {n : ℕ} (index : Indexed b of
 
   all : (k : ℕ) → T (holds (flat (parts_of (set_in b))) k) → Present keys ord' r.count k
   all k t =
-      let w = in_get_d names k 0 (named_in k t) in
+      let w = in_get_or names k 0 (named_in k t) in
       let h : w.0 < r.count = omega (arith, w.1, names_count) in
       (w.0, h, sym (name_is w.0 h) ∙ sym w.2)
 

@@ -9,10 +9,10 @@ use lib.Dec.{T}
 use lib.Pow.{are_bytes}
 use Rattle.laws.specs.Lists.{In, keep, up_to}
 use Rattle.laws.proofs.Agree.{keep_agree}
-use Rattle.laws.proofs.Members.{keep_in, get_d_in}
+use Rattle.laws.proofs.Members.{keep_in, get_or_in}
 use Rattle.laws.proofs.Ranges.{up_to_in}
 use Rattle.laws.proofs.Stores.{sets_then, sets_front}
-use Rattle.field.proofs.Stores.{length_run, get_d_run}
+use Rattle.field.proofs.Stores.{length_run, get_or_run}
 use Rattle.part_set.specs.Masks.{has}
 use Rattle.paper.specs.Image.{bytes_of_part}
 use Rattle.index.specs.Index.{set_in}
@@ -47,8 +47,8 @@ module _ {b l offs starts ord ent masks counts base slots members begins : List 
       let run = take (count q) (drop (get_or begins q 0) members) in
       let all = length_run members (get_or begins q 0) (count q) (part_listed F q g) in
       subst (λ (xs : List ℕ). In (get_or members (get_or begins q 0 + k) 0) xs) (members_are q g)
-      (subst (λ (x : ℕ). In x run) (get_d_run members (get_or begins q 0) (count q) (part_listed F q g) k h)
-      (get_d_in run k 0 (omega (arith, all))))
+      (subst (λ (x : ℕ). In x run) (get_or_run members (get_or begins q 0) (count q) (part_listed F q g) k h)
+      (get_or_in run k 0 (omega (arith, all))))
 
   -- one that resides there is an entity with its bit
   resident : (q i : ℕ) → In i (residents q) → (i < m) × T (has (mask_at (made b l) (mesh b) i) q)

@@ -8,7 +8,7 @@ use lib.ListN.{length, get_or, take, drop}
 use lib.Seq.{ext_get_or}
 use lib.Dec.{T}
 use Rattle.laws.specs.Lists.{In, flat}
-use Rattle.laws.proofs.Members.{get_d_in, in_map}
+use Rattle.laws.proofs.Members.{get_or_in, in_map}
 use Rattle.laws.proofs.Agree.{map_of_map, map_same}
 use Rattle.field.specs.Bytes.{u8_at, u32_at, u64_at, words, bytes_of}
 use Rattle.field.proofs.Reading.{length-words, u32_drop}
@@ -17,7 +17,7 @@ use Rattle.part_set.proofs.OnePart.{has_none}
 use Rattle.paper.specs.Image.{Row, no_row, row_at}
 use Rattle.paper.specs.Mesh.{Entity, name_of, no_ent, slots_of, shape_of, ent_of, slot_in}
 use Rattle.index.specs.Index.{row_from, set_in, Indexed}
-use Rattle.index.proofs.RowFields.{get_d_words, row_number, row_dim, row_kind, row_mask, row_value, row_body, row_word}
+use Rattle.index.proofs.RowFields.{get_or_words, row_number, row_dim, row_kind, row_mask, row_value, row_body, row_word}
 use Rattle.plan.specs.Plan.{mesh, LowestRow, Numbered}
 use Rattle.demands.proofs.Rows.Bodies.{vertex_body}
 use Rattle.demands.proofs.Sound.Facts.{Copied}
@@ -33,7 +33,7 @@ words_read b o k few =
     let n = length-words k (drop (o + 24) b) in
     ext_get_or 0 (words k (drop (o + 24) b)) (words k (row_from b o).body) (n ∙ sym (length-words k (row_from b o).body)) (λ i h.
     let h' : i < k = subst (λ (z : ℕ). i < z) n h in
-    get_d_words k (drop (o + 24) b) i h' ∙ u32_drop b (o + 24) (4 * i) ∙ sym (row_word b o k i h' few))
+    get_or_words k (drop (o + 24) b) i h' ∙ u32_drop b (o + 24) (4 * i) ∙ sym (row_word b o k i h' few))
 
 module _ {b offs starts ord : List ℕ} {n : ℕ} (index : Indexed b offs starts n) (f : Copied (set_in b)) {i : ℕ} (L : LowestRow (set_in b) starts ord i) where
   -- its row, where it stands, and its entity
@@ -161,7 +161,7 @@ module _ {b offs starts ord : List ℕ} {n : ℕ} (index : Indexed b offs starts
       slot_in_lem =
           let h' : k < suc (suc d) = omega (arith, dim_is, e) in
           subst (λ (t : ℕ). In t slots) (ap (λ (r : Row). get_or (words (suc (suc d)) r.body) k 0) row_is ∙ row_word b (source_at offs ord i) (suc (suc d)) k h' few_slots)
-          (get_d_in slots k 0 (omega (arith, length-words (suc (suc d)) source.body)))
+          (get_or_in slots k 0 (omega (arith, length-words (suc (suc d)) source.body)))
 
       pub face-named : get_or starts (lowest_of (u64_at b (source_at offs ord i + 8))) 0 + u32_at b (source_at offs ord i + 24 + 4 * k) < length ent
       face-named =

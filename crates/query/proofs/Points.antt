@@ -12,13 +12,13 @@ use Rattle.paper.specs.declared.Point.{Point}
 use Rattle.paper.specs.Sound.{body_fitting}
 use Rattle.paper.specs.Box.{point_of}
 use Rattle.index.specs.Index.{row_from}
-use Rattle.index.proofs.RowFields.{get_d_longs, row_long}
+use Rattle.index.proofs.RowFields.{get_or_longs, row_long}
 use Rattle.fields.proofs.Laws.{point_tests}
 
 module _ (b : List ℕ) (o : ℕ) where
   -- coordinate i stands at 24 + 8 i of the row
   coordinate : (i k : ℕ) → i < 3 → o + 24 + 8 * i ≡ k → u64_at b k ≡ u64_at (row_from b o).body (8 * i)
-  coordinate i k h e = sym (ap (u64_at b) e) ∙ sym (row_long b o 3 i h (omega arith)) ∙ get_d_longs 3 (row_from b o).body i h
+  coordinate i k h e = sym (ap (u64_at b) e) ∙ sym (row_long b o 3 i h (omega arith)) ∙ get_or_longs 3 (row_from b o).body i h
 
   pub record Finite : Type 0 where
     pub x : finite (u64_at b (o + 24)) ≡ true

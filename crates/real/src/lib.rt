@@ -1,5 +1,7 @@
 // A real number as a decimal that reads back as the same number: rounded to the fewest digits that keep it less than half a gap away, where the
 // gap is that to the nearest other real. Nothing here knows of meshes.
+#![tactic(auto)]
+
 mod digits;
 mod rounding;
 

@@ -12,9 +12,9 @@ use borrow.Author.Tests.{eq-eqb, ne_eqb}
 use Rattle.laws.specs.Lists.{In, every}
 use Rattle.laws.proofs.Tests as tests
 use Rattle.laws.proofs.Tests.{decide, iff_eq, both, and_l, and_r, T_true, bit_eqb}
-use Rattle.laws.proofs.Members.{get_d_in, every_in, in_every}
+use Rattle.laws.proofs.Members.{get_or_in, every_in, in_every}
 use Rattle.laws.proofs.Ascending.{left_out}
-use Rattle.laws.proofs.Places.{index_get_d}
+use Rattle.laws.proofs.Places.{index_get_or}
 use Rattle.field.specs.Bytes.{u32_at, u64_at}
 use Rattle.field.proofs.Reading.{u64_lt}
 use Rattle.part_set.specs.Masks.{has, parts_in, others, count, lowest_of, Rest}
@@ -168,14 +168,14 @@ module _ {b offs starts cov : List ℕ} (index : Indexed b offs starts (length (
 
     in_q : In q (others m p)
     unfolding q
-    in_q = get_d_in (others m p) i 0 l
+    in_q = get_or_in (others m p) i 0 l
 
     remote_is : u32_at b (o + 48 + 4 * i) ≡ remote_slot_of (row S p s) p q
     unfolding remote_slot_of q remotes
     remote_is =
         let few : i < remotes (row_from b o).mask = subst (λ (r : Row). i < remotes r.mask) is_row (omega (arith, l, others-count m p part_small own_there)) in
         sym (row_slot b o i few) ∙ ap (λ (r : Row). get_or r.slots i 0) (sym is_row)
-        ∙ ap (λ (k : ℕ). get_or (row S p s).slots k 0) (sym (index_get_d (others m p) (others-ascends m p) i l))
+        ∙ ap (λ (k : ℕ). get_or (row S p s).slots k 0) (sym (index_get_or (others m p) (others-ascends m p) i l))
 
     remote_there : u32_at b (o + 48 + 4 * i) < length (get_or S q [])
     remote_there = rw remote_is (twin S f p s q h in_q).slot

@@ -7,9 +7,9 @@ use lib.ListN.{length, get_or, length-map}
 use lib.Dec.{T, eqb, ltb, ltb→lt, eqb→eq}
 use Rattle.laws.specs.Lists.{In, some?, ascending, member}
 use Rattle.laws.proofs.Tests.{split2}
-use Rattle.laws.proofs.Members.{in_get_d}
-use Rattle.laws.proofs.Agree.{map_same, map_of_map, get_d_map, some_same}
-use Rattle.laws.proofs.Ascending.{asc_get_d}
+use Rattle.laws.proofs.Members.{in_get_or}
+use Rattle.laws.proofs.Agree.{map_same, map_of_map, get_or_map, some_same}
+use Rattle.laws.proofs.Ascending.{asc_get_or}
 use Rattle.laws.proofs.Increasing.{member_after}
 use Rattle.paper.specs.Image.{Row, Set, no_row, row_at}
 use Rattle.paper.specs.Mesh.{name_of, face_names, faces, slots_of, shape_of, ent_of, bounds}
@@ -27,7 +27,7 @@ module _ (rows : List Row) (ascends : T (ascending (map name_of_row rows))) wher
   nm_up : (s t : ℕ) → s < length rows → t < length rows → s < t → nm s < nm t
   unfolding nm
   nm_up s t hs ht h =
-      omega (arith, asc_get_d (map name_of_row rows) ascends s t h (omega (arith, length-map rows name_of_row)), get_d_map name_of_row rows s no_row 0 hs, get_d_map name_of_row rows t no_row 0 ht)
+      omega (arith, asc_get_or (map name_of_row rows) ascends s t h (omega (arith, length-map rows name_of_row)), get_or_map name_of_row rows s no_row 0 hs, get_or_map name_of_row rows t no_row 0 ht)
 
   -- the names of the faces are those of the slots
   face_slots_lem : (s d : ℕ) (body : List ℕ) → s < length rows → ((t : ℕ) → In t (slots_of d body) → (t < length rows) × (suc (get_or rows t no_row).dim ≡ d))
@@ -54,5 +54,5 @@ module _ (S : Set) (f : Copied S) where
   unfolding covered nm row_at
   covered_slot q t h =
       slot_name (get_or S q []) (rows_ascend (get_or S q []) (f.order q)) (λ r i.
-      let w = in_get_d (get_or S q []) r no_row i in
+      let w = in_get_or (get_or S q []) r no_row i in
       rw w.2 (row_slots_stand (get_or S q []) (get_or (get_or S q []) w.0 no_row) (f.boundary q w.0 w.1))) t h

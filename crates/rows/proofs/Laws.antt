@@ -5,7 +5,7 @@ use native.Mathlib.Omega.{arith}
 use mathlib.Core.Path.{◌≡◌}
 use mathlib.Core.List.{List, []}
 use lib.ListN.{length, get_or}
-use Rattle.laws.proofs.Members.{get_d_in, part_lt}
+use Rattle.laws.proofs.Members.{get_or_in, part_lt}
 use Rattle.paper.specs.Image.{row_at, no_row}
 use Rattle.index.specs.Index.{set_in, max_rows, Indexed}
 use Rattle.index.proofs.RowFields.{row_long_enough}
@@ -21,7 +21,7 @@ module _ {b offs starts : List ℕ} {n : ℕ} (index : Indexed b offs starts n) 
 
   module _ (p s : ℕ) (h : s < length (get_or (set_in b) p [])) where
     pub part_there : p < n
-    part_there = omega (arith, part_lt (set_in b) p (get_or (get_or (set_in b) p []) s no_row) (get_d_in (get_or (set_in b) p []) s no_row h), index.count)
+    part_there = omega (arith, part_lt (set_in b) p (get_or (get_or (set_in b) p []) s no_row) (get_or_in (get_or (set_in b) p []) s no_row h), index.count)
 
     pub row_there : get_or starts p 0 + s < max_rows
     row_there = omega (arith, part_room p part_there, index.total_few)

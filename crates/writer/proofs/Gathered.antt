@@ -6,12 +6,12 @@ use native.Mathlib.Omega.{arith}
 use mathlib.Core.Path.{◌≡◌, sym, ap, ◌∙◌, subst}
 use mathlib.Core.List.{List}
 use lib.ListN.{length, get_or, set, take, drop, length-map}
-use Rattle.laws.proofs.Agree.{get_d_map}
+use Rattle.laws.proofs.Agree.{get_or_map}
 use Rattle.field.specs.Bytes.{u32_at, u64_at, words}
 use Rattle.field.proofs.Reading.{length-words, u32_drop}
-use Rattle.field.proofs.Stores.{Storing, store_more, sets_inside, get_d_run}
+use Rattle.field.proofs.Stores.{Storing, store_more, sets_inside, get_or_run}
 use Rattle.part_set.specs.Masks.{lowest_of}
-use Rattle.index.proofs.RowFields.{get_d_words}
+use Rattle.index.proofs.RowFields.{get_or_words}
 use Rattle.writer.specs.Rows.{face_at, faces_at}
 use Rattle.writer.specs.Written.{FacesNamed, FacesFound}
 
@@ -25,8 +25,8 @@ module _ (image : List ℕ) (at : ℕ) (starts ent : List ℕ) (d : ℕ) where
   unfolding faces_at
   face_at_lem k h =
       let ws = words (d + 1) (drop (at + 24) image) in
-      get_d_map (face_at image starts ent at) ws k 0 0 (omega (arith, length-words (d + 1) (drop (at + 24) image)))
-      ∙ ap (face_at image starts ent at) (get_d_words (d + 1) (drop (at + 24) image) k h ∙ u32_drop image (at + 24) (4 * k))
+      get_or_map (face_at image starts ent at) ws k 0 0 (omega (arith, length-words (d + 1) (drop (at + 24) image)))
+      ∙ ap (face_at image starts ent at) (get_or_words (d + 1) (drop (at + 24) image) k h ∙ u32_drop image (at + 24) (4 * k))
 
   -- its row, as code finds it: by the lowest part of the old residence set `long`
   module _ (k long low slot : ℕ) (e : long ≡ u64_at image (at + 8)) (f : low ≡ lowest_of long) (g : slot ≡ u32_at image (at + 24 + 4 * k)) where
@@ -55,4 +55,4 @@ module _ (image : List ℕ) (at : ℕ) (starts ent : List ℕ) (d : ℕ) where
 
     pub found_at : (k : ℕ) → k < d + 1 → get_or after (0 + k) 0 ≡ face_at image starts ent at (u32_at image (at + 24 + 4 * k))
     found_at k l =
-        sym (get_d_run after 0 (d + 1) (omega (arith, w.same)) k l) ∙ ap (λ (xs : List ℕ). get_or xs k 0) found_run ∙ face_at_lem k l
+        sym (get_or_run after 0 (d + 1) (omega (arith, w.same)) k l) ∙ ap (λ (xs : List ℕ). get_or xs k 0) found_run ∙ face_at_lem k l

@@ -11,7 +11,7 @@ use Rattle.laws.proofs.Agree.{map_of_map}
 use Rattle.field.specs.Bytes.{bytes_of}
 use Rattle.field.proofs.Numbers.{length-bytes}
 use Rattle.laws.proofs.Stores.{sets_then}
-use Rattle.field.proofs.Stores.{length_run, get_d_run}
+use Rattle.field.proofs.Stores.{length_run, get_or_run}
 use Rattle.paper.specs.Image.{Row, row_bytes, bytes_of_part}
 use Rattle.writer.specs.Rows.{new_row, new_rows}
 use Rattle.writer.specs.Written.{Put}
@@ -93,13 +93,13 @@ module _ (image offs starts ord ent counts masks base slots : List ℕ) (q : ℕ
       module _ (out : List ℕ) (k to : ℕ) (w : RowsLeft start at out k to) where
         pub rows-room : k < n → to + length (entity_bytes (get_or members (first + k) 0)) ≤ length out
         rows-room l =
-            subst (λ (i : ℕ). to + length (entity_bytes i) ≤ length out) (get_d_run members first n h k l)
+            subst (λ (i : ℕ). to + length (entity_bytes i) ≤ length out) (get_or_run members first n h k l)
             (runs_room entity_bytes (take n (drop first members)) start at out k to w (omega (arith, length_run members first n h)))
 
         pub rows_more : (out' : List ℕ) (to' : ℕ) → k < n → Put (entity_bytes (get_or members (first + k) 0)) out out' to to' → RowsLeft start at out' (k + 1) to'
         rows_more out' to' l p =
             runs-more entity_bytes (take n (drop first members)) start at out k to w out' to' (omega (arith, length_run members first n h))
-            (subst (λ (i : ℕ). Put (entity_bytes i) out out' to to') (sym (get_d_run members first n h k l)) p)
+            (subst (λ (i : ℕ). Put (entity_bytes i) out out' to to') (sym (get_or_run members first n h k l)) p)
 
         pub rows_done : n ≤ k → Put all_rows start out at to
         rows_done l =

@@ -16,10 +16,10 @@ use Rattle.paper.specs.Sound.{name_of_row, remote_slot_of, twin_agrees, copies_a
 use Rattle.paper.specs.Placement.{residence_in, row_for, rows_for}
 use Rattle.laws.proofs.Tests.{both, join4, join5, or_l, or_r, decide, eq-eqb}
 use Rattle.laws.proofs.Agree.{map_of_map}
-use Rattle.laws.proofs.Members.{in_every, get_d_in}
+use Rattle.laws.proofs.Members.{in_every, get_or_in}
 use Rattle.laws.proofs.Ranges.{up_to_in}
 use Rattle.demands.proofs.Entities.Names.{in_holds}
-use Rattle.laws.proofs.Places.{read_at, index_get_d}
+use Rattle.laws.proofs.Places.{read_at, index_get_or}
 use Rattle.part_set.proofs.MaskParts.{others_in, in_others, others-ascends}
 use Rattle.laws.proofs.Same.{same_refl}
 use Rattle.demands.proofs.Rows.ReadBack.{slot_lt, slot_name}
@@ -53,13 +53,13 @@ module _ (ps : Parts) (F : Fit ps) (few : (p : ℕ) → length (get_or ps p []) 
   slot_ent q e i =
       let es = get_or ps q [] in
       let t = in_holds es e i in
-      F.agree q q (get_or es (slot_in es (name e)) no_ent) e (get_d_in es (slot_in es (name e)) no_ent (slot_lt es (name e) t)) i (slot_name es (name e) t)
+      F.agree q q (get_or es (slot_in es (name e)) no_ent) e (get_or_in es (slot_in es (name e)) no_ent (slot_lt es (name e) t)) i (slot_name es (name e) t)
 
   slot_place : (p s : ℕ) → s < length (get_or ps p []) → slot_in (get_or ps p []) (name (get_or (get_or ps p []) s no_ent)) ≡ s
   unfolding slot_in
   slot_place p s h =
       let es = get_or ps p [] in
-      ap (λ (k : ℕ). index_of k (map name es)) (sym (get_or-map name es s no_ent)) ∙ index_get_d (map name es) (F.ascends p) s (subst (λ (n : ℕ). s < n) (sym (length-map es name)) h)
+      ap (λ (k : ℕ). index_of k (map name es)) (sym (get_or-map name es s no_ent)) ∙ index_get_or (map name es) (F.ascends p) s (subst (λ (n : ℕ). s < n) (sym (length-map es name)) h)
 
   ent_in : (q : ℕ) (e : Entity) → In e (get_or ps q []) → ent_of (get_or (rows_for ps) q []) (row_for ps q e) ≡ e
   ent_in q e i = ap (λ (rows : List Row). ent_of rows (row_for ps q e)) (rows-part ps q) ∙ ent-back ps F few q e i
@@ -120,7 +120,7 @@ module _ (ps : Parts) (F : Fit ps) (few : (p : ℕ) → length (get_or ps p []) 
   row-copies p s h =
       let S = rows_for ps in
       let e = get_or (get_or ps p []) s no_ent in
-      let i = get_d_in (get_or ps p []) s no_ent h in
+      let i = get_or_in (get_or ps p []) s no_ent h in
       let r = row S p s in
       let er : r ≡ row_for ps p e = row_at_lem ps p s h in
       both (every (twin_agrees S p s) (others r.mask p)) (every (λ q. not (member (name_of_row r) (map name_of_row (get_or S q []))) || has r.mask q) (up_to (length S)))

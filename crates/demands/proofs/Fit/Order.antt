@@ -15,9 +15,9 @@ use Rattle.paper.specs.Sound.{name_of_row, ordered, slots_stand, boundary_stands
 use Rattle.paper.specs.Placement.{body_in, row_for}
 use Rattle.laws.proofs.Tests.{both, eq-eqb}
 use Rattle.laws.proofs.Members.{in_every, map_in}
-use Rattle.laws.proofs.Agree.{get_d_map}
+use Rattle.laws.proofs.Agree.{get_or_map}
 use Rattle.demands.proofs.Entities.Names.{name_dim}
-use Rattle.laws.proofs.Ascending.{asc_get_d, asc_places, asc_map}
+use Rattle.laws.proofs.Ascending.{asc_get_or, asc_places, asc_map}
 use Rattle.demands.proofs.Rows.ReadBack.{slot_lt, slot_name, slots-written}
 use Rattle.demands.proofs.Fit.Record.{Fit}
 use Rattle.demands.proofs.Fit.Rows.{rows_in, numbers, faces_at_lem, all_standing, ent-back, part-back}
@@ -25,7 +25,7 @@ use Rattle.demands.proofs.Fit.Rows.{rows_in, numbers, faces_at_lem, all_standing
 module _ (ps : Parts) (F : Fit ps) (few : (p : ℕ) → length (get_or ps p []) < 2 ^ 32) where
   row-name : (p s : ℕ) → s < length (get_or ps p []) → name_of_row (get_or (rows_in ps p) s no_row) ≡ get_or (map name (get_or ps p [])) s 0
   unfolding row_for
-  row-name p s h = ap name_of_row (get_d_map (row_for ps p) (get_or ps p []) s no_ent no_row h) ∙ sym (ListN.get_d_map name (get_or ps p []) s no_ent)
+  row-name p s h = ap name_of_row (get_or_map (row_for ps p) (get_or ps p []) s no_ent no_row h) ∙ sym (ListN.get_or-map name (get_or ps p []) s no_ent)
 
   pub row-ordered : (p s : ℕ) → s < length (get_or ps p []) → T (ordered (rows_in ps p) s)
   unfolding ordered
@@ -38,7 +38,7 @@ module _ (ps : Parts) (F : Fit ps) (few : (p : ℕ) → length (get_or ps p []) 
       lt_by : (p s : ℕ) → suc s < length (get_or ps p []) → name_of_row (get_or (rows_in ps p) s no_row) < name_of_row (get_or (rows_in ps p) (suc s) no_row)
       lt_by p s h =
           let l = length-map (get_or ps p []) name in
-          let up = asc_get_d (map name (get_or ps p [])) (F.ascends p) s (suc s) (omega arith) (omega (arith, l)) in
+          let up = asc_get_or (map name (get_or ps p [])) (F.ascends p) s (suc s) (omega arith) (omega (arith, l)) in
           subst₂ (λ (x y : ℕ). x < y) (sym (row-name p s (omega arith))) (sym (row-name p (suc s) h)) up
 
   -- ---- the boundary
@@ -50,7 +50,7 @@ module _ (ps : Parts) (F : Fit ps) (few : (p : ℕ) → length (get_or ps p []) 
       let es = get_or ps p [] in
       let s = slot_in es (name_of d k) in
       let e = get_or es s no_ent in
-      ap (λ (r : Row). r.dim) (get_d_map (row_for ps p) es s no_ent no_row (slot_lt es (name_of d k) t))
+      ap (λ (r : Row). r.dim) (get_or_map (row_for ps p) es s no_ent no_row (slot_lt es (name_of d k) t))
       ∙ name_dim e.dim e.number d k (numbers ps F few p s) h (slot_name es (name_of d k) t)
 
   slots_up : (p d a b : ℕ) → T (holds (get_or ps p []) (name_of d a)) → T (holds (get_or ps p []) (name_of d b)) → a < b
@@ -63,7 +63,7 @@ module _ (ps : Parts) (F : Fit ps) (few : (p : ℕ) → length (get_or ps p []) 
       let hi = slot_lt es (name_of d a) s in
       let hj = slot_lt es (name_of d b) t in
       asc_places (map name es) (F.ascends p) i j (omega (arith, n)) (omega (arith, n))
-      (subst₂ (λ (x y : ℕ). x < y) (sym (ListN.get_d_map name es i no_ent ∙ slot_name es (name_of d a) s)) (sym (ListN.get_d_map name es j no_ent ∙ slot_name es (name_of d b) t)) (omega arith))
+      (subst₂ (λ (x y : ℕ). x < y) (sym (ListN.get_or-map name es i no_ent ∙ slot_name es (name_of d a) s)) (sym (ListN.get_or-map name es j no_ent ∙ slot_name es (name_of d b) t)) (omega arith))
 
   stand_at : (p : ℕ) (e : Entity) → In e (get_or ps p []) → (d : ℕ) → e.dim ≡ d → let fs = slots_of d (body_in (get_or ps p []) d e.shape) in
       T (every (λ f. ltb f (length (rows_in ps p)) && eqb (suc (get_or (rows_in ps p) f no_row).dim) d) fs && pairwise ltb fs)

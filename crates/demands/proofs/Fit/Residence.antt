@@ -13,7 +13,7 @@ use Rattle.paper.specs.Image.{Row, row_at}
 use Rattle.paper.specs.Mesh.{Entity, Parts, name, no_ent, bounds, is_object}
 use Rattle.paper.specs.Sound.{name_of_row, rows_above, residence, resides_well}
 use Rattle.paper.specs.Placement.{residence_in, row_for, rows_for}
-use Rattle.laws.proofs.Members.{get_d_in, in_get_d, in_flat, some_in, in_some}
+use Rattle.laws.proofs.Members.{get_or_in, in_get_or, in_flat, some_in, in_some}
 use Rattle.demands.proofs.Entities.Names.{not_object}
 use Rattle.part_set.proofs.MaskBits.{mask_of_is}
 use Rattle.laws.proofs.Ascending.{one_only}
@@ -49,7 +49,7 @@ module _ (ps : Parts) (F : Fit ps) (few : (p : ℕ) → length (get_or ps p []) 
       record {
         part = q;
         above = get_or (get_or ps q []) t no_ent;
-        there = get_d_in (get_or ps q []) t no_ent h;
+        there = get_or_in (get_or ps q []) t no_ent h;
         bounded = subst (λ (x : Entity). T (bounds k x)) (ent_at ps F few q t h) w.4;
         mask = ap (λ (r : Row). r.mask) w.3 ∙ mask_at q t h;
       }
@@ -57,7 +57,7 @@ module _ (ps : Parts) (F : Fit ps) (few : (p : ℕ) → length (get_or ps p []) 
   -- and each such entity has its row there
   is_above : (k q : ℕ) (g : Entity) → In g (get_or ps q []) → T (bounds k g) → (a : Row) × In a (rows_above (rows_for ps) k) × (a.mask ≡ residence_in ps (name g))
   is_above k q g i b =
-      let w = in_get_d (get_or ps q []) g no_ent i in
+      let w = in_get_or (get_or ps q []) g no_ent i in
       let t = w.0 in
       let e : ent (rows_for ps) q t ≡ g = ent_at ps F few q t w.1 ∙ sym w.2 in (
         row (rows_for ps) q t,
@@ -113,4 +113,4 @@ module _ (ps : Parts) (F : Fit ps) (few : (p : ℕ) → length (get_or ps p []) 
   row_resides p s h =
       let e = get_or (get_or ps p []) s no_ent in
       subst₂ (λ (n : ℕ) (r : Row). T (residence n r.mask (rows_above (rows_for ps) (name_of_row r)))) (sym (rows-count ps)) (sym (row_at_lem ps p s h))
-      (resides_ent p e (get_d_in (get_or ps p []) s no_ent h))
+      (resides_ent p e (get_or_in (get_or ps p []) s no_ent h))

@@ -15,8 +15,8 @@ use Rattle.paper.specs.Image.{Row, no_row}
 use Rattle.paper.specs.Mesh.{Entity, Parts, name_of, name, no_ent, shape_of, ent_of, parts_of, holds}
 use Rattle.paper.specs.Placement.{residence_in, body_in, row_for, rows_for, shape_fits}
 use Rattle.laws.proofs.Tests.{split2, both, decide}
-use Rattle.laws.proofs.Agree.{map_of_map, map_self, get_d_map}
-use Rattle.laws.proofs.Members.{get_d_in, every_in, in_every, part_lt}
+use Rattle.laws.proofs.Agree.{map_of_map, map_self, get_or_map}
+use Rattle.laws.proofs.Members.{get_or_in, every_in, in_every, part_lt}
 use Rattle.demands.proofs.Entities.Names.{in_holds}
 use Rattle.part_set.proofs.MaskBits.{has_mask_of}
 use Rattle.part_set.proofs.MaskParts.{mask_of_lt, has_lt}
@@ -38,7 +38,7 @@ pub in_rows : (ps : Parts) (p : ℕ) → length (get_or (rows_for ps) p []) ≡ 
 in_rows ps p = ap length (rows-part ps p) ∙ length-map (get_or ps p []) (row_for ps p)
 
 pub row_at_lem : (ps : Parts) (p s : ℕ) → s < length (get_or ps p []) → row (rows_for ps) p s ≡ row_for ps p (get_or (get_or ps p []) s no_ent)
-row_at_lem ps p s h = ap (λ (rows : List Row). get_or rows s no_row) (rows-part ps p) ∙ get_d_map (row_for ps p) (get_or ps p []) s no_ent no_row h
+row_at_lem ps p s h = ap (λ (rows : List Row). get_or rows s no_row) (rows-part ps p) ∙ get_or_map (row_for ps p) (get_or ps p []) s no_ent no_row h
 
 -- ---- residence sets
 
@@ -86,7 +86,7 @@ module _ (ps : Parts) (F : Fit ps) (few : (p : ℕ) → length (get_or ps p []) 
   numbers p i = go (decide (ltb i (length (get_or ps p []))))
     where
       go : T (ltb i (length (get_or ps p []))) ⊎ T (not (ltb i (length (get_or ps p [])))) → (get_or (get_or ps p []) i no_ent).number < 2 ^ 32
-      go (inl t) = (F.fits p (get_or (get_or ps p []) i no_ent) (get_d_in (get_or ps p []) i no_ent (ltb→lt i (length (get_or ps p [])) t))).number
+      go (inl t) = (F.fits p (get_or (get_or ps p []) i no_ent) (get_or_in (get_or ps p []) i no_ent (ltb→lt i (length (get_or ps p [])) t))).number
       go (inr t) =
           subst (λ (e : Entity). e.number < 2 ^ 32) (sym (get_or-eq_default (get_or ps p []) no_ent {n = i} (nltb→le i (length (get_or ps p [])) t))) (lit< tt)
 
@@ -123,4 +123,4 @@ module _ (ps : Parts) (F : Fit ps) (few : (p : ℕ) → length (get_or ps p []) 
   pub ent_at : (p s : ℕ) → s < length (get_or ps p []) → ent (rows_for ps) p s ≡ get_or (get_or ps p []) s no_ent
   ent_at p s h =
       ap₂ (λ (rows : List Row) (r : Row). ent_of rows r) (rows-part ps p) (row_at_lem ps p s h)
-      ∙ ent-back p (get_or (get_or ps p []) s no_ent) (get_d_in (get_or ps p []) s no_ent h)
+      ∙ ent-back p (get_or (get_or ps p []) s no_ent) (get_or_in (get_or ps p []) s no_ent h)

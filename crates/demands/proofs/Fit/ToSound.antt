@@ -16,7 +16,7 @@ use Rattle.paper.specs.Mesh.{Parts, no_ent, owner_among}
 use Rattle.paper.specs.Sound.{fields_fit, ordered, boundary_stands, owned_well}
 use Rattle.paper.specs.Placement.{row_for, rows_for}
 use Rattle.laws.proofs.Tests.{both, eq-eqb}
-use Rattle.laws.proofs.Members.{get_d_in, in_get_d, map_in}
+use Rattle.laws.proofs.Members.{get_or_in, in_get_or, map_in}
 use Rattle.paper.proofs.Codec.{Wide}
 use Rattle.demands.proofs.Fit.Record.{Fit}
 use Rattle.demands.proofs.Rows.Made.{rows-count, rows-part}
@@ -46,12 +46,12 @@ module _ (ps : Parts) (F : Fit ps) (few : (p : ℕ) → length (get_or ps p []) 
         some_part = subst (λ (n : ℕ). 0 < n) (sym (rows-count ps)) F.some_part;
         few_parts = subst (λ (n : ℕ). n ≤ 64) (sym (rows-count ps)) F.few_parts;
         wide = λ p s h. let l = slot p s h in
-            subst Wide (sym (row_at_lem ps p s l)) (row_wide ps F few p (get_or (get_or ps p []) s no_ent) (get_d_in (get_or ps p []) s no_ent l));
+            subst Wide (sym (row_at_lem ps p s l)) (row_wide ps F few p (get_or (get_or ps p []) s no_ent) (get_or_in (get_or ps p []) s no_ent l));
         fields = λ p s h. let l = slot p s h in
-            subst₂ (λ (n : ℕ) (r : Row). T (fields_fit n p r)) (sym (rows-count ps)) (sym (row_at_lem ps p s l)) (row-fields ps F few p (get_or (get_or ps p []) s no_ent) (get_d_in (get_or ps p []) s no_ent l));
+            subst₂ (λ (n : ℕ) (r : Row). T (fields_fit n p r)) (sym (rows-count ps)) (sym (row_at_lem ps p s l)) (row-fields ps F few p (get_or (get_or ps p []) s no_ent) (get_or_in (get_or ps p []) s no_ent l));
         order = λ p s h. subst (λ (rows : List Row). T (ordered rows s)) (sym (rows-part ps p)) (row-ordered ps F few p s (slot p s h));
         boundary = λ p s h. let l = slot p s h in
-            subst₂ (λ (rows : List Row) (r : Row). T (boundary_stands rows r)) (sym (rows-part ps p)) (sym (row_at_lem ps p s l)) (row_boundary ps F few p (get_or (get_or ps p []) s no_ent) (get_d_in (get_or ps p []) s no_ent l));
+            subst₂ (λ (rows : List Row) (r : Row). T (boundary_stands rows r)) (sym (rows-part ps p)) (sym (row_at_lem ps p s l)) (row_boundary ps F few p (get_or (get_or ps p []) s no_ent) (get_or_in (get_or ps p []) s no_ent l));
         copies = λ p s h. row-copies ps F few p s (slot p s h);
       }
 
@@ -77,4 +77,4 @@ module _ (ps : Parts) (F : Fit ps) (few : (p : ℕ) → length (get_or ps p []) 
       let rest = flat (map bytes_of_part S) in
       both (ltb (length S) 256) (are_bytes rest) (lt→ltb (length S) 256 (omega (arith, rows-count ps, F.few_parts)))
       (bytes-flat bytes_of_part S (λ rows i.
-      let w = in_get_d S rows [] i in subst (λ (x : List Row). T (are_bytes (bytes_of_part x))) (sym (w.2 ∙ rows-part ps w.0)) (part_bytes w.0)))
+      let w = in_get_or S rows [] i in subst (λ (x : List Row). T (are_bytes (bytes_of_part x))) (sym (w.2 ∙ rows-part ps w.0)) (part_bytes w.0)))

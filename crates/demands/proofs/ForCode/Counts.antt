@@ -18,7 +18,7 @@ use Rattle.paper.specs.Sound.{name_of_row}
 use Rattle.paper.specs.Placement.{Placement, objects, spread, place_in, places_of, WellPlaced}
 use Rattle.paper.specs.Move.{changes}
 use Rattle.laws.proofs.Tests.{and_l}
-use Rattle.laws.proofs.Members.{in_get_d}
+use Rattle.laws.proofs.Members.{in_get_or}
 use Rattle.laws.proofs.Agree.{keep_agree, keep_of_map}
 use Rattle.laws.proofs.Ascending.{one_only}
 use Rattle.laws.proofs.Totals.{total-same, total_zero}
@@ -156,7 +156,7 @@ module _ (S : Set) (f : Sound S) where
       ap (λ (part : List Entity). length (keep H part)) (parts_at S p)
       ∙ ap length (keep_of_map H (ent_of rows) rows) ∙ length-map ks (ent_of rows)
       ∙ ap length (keep_agree (λ r. H (ent_of rows r)) (λ r. not (covered S p (name_of_row r)) && R p r) rows (λ r i.
-      let w = in_get_d rows r no_row i in
+      let w = in_get_or rows r no_row i in
       subst (λ (x : Row). H (ent_of rows x) ≡ (not (covered S p (name_of_row x)) && R p x)) (sym w.2) (at p w.0 w.1))))
     where
       at : (p s : ℕ) → s < length (get_or S p [])

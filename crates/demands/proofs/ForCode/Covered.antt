@@ -17,7 +17,7 @@ use Rattle.paper.specs.Image.{Row, Set, no_row, row_at}
 use Rattle.paper.specs.Mesh.{Entity, Parts, name, bounds, is_object, holds, ent_of, parts_of, objects_in}
 use Rattle.paper.specs.Sound.{name_of_row, rows_above, residence, resides_well}
 use Rattle.laws.proofs.Tests.{or_either, or_l, or_r, iff_eq}
-use Rattle.laws.proofs.Members.{get_d_in, in_get_d, every_in, in_every, some_in, in_some, in_flat}
+use Rattle.laws.proofs.Members.{get_or_in, in_get_or, every_in, in_every, some_in, in_some, in_flat}
 use Rattle.demands.proofs.Entities.Names.{not_object}
 use Rattle.part_set.proofs.MaskBits.{has_mask_of, mask_of_is}
 use Rattle.laws.proofs.Ascending.{only_one}
@@ -41,12 +41,12 @@ unfolding covered
 covered-row S q k t =
     let rows = get_or S q [] in
     let w = some_in (λ r. bounds k (ent_of rows r)) rows t in
-    let v = in_get_d rows w.0 no_row w.1 in
+    let v = in_get_or rows w.0 no_row w.1 in
     (v.0, v.1, subst (λ (r : Row). T (bounds k (ent_of rows r))) v.2 w.2)
 
 pub row-covered : (S : Set) (q k t : ℕ) → t < length (get_or S q []) → T (bounds k (ent S q t)) → T (covered S q k)
 unfolding covered
-row-covered S q k t h b = let rows = get_or S q [] in in_some (λ r. bounds k (ent_of rows r)) rows (get_or rows t no_row) (get_d_in rows t no_row h) b
+row-covered S q k t h b = let rows = get_or S q [] in in_some (λ r. bounds k (ent_of rows r)) rows (get_or rows t no_row) (get_or_in rows t no_row h) b
 
 -- ---- rule 11, for a set that passes rules 7 to 10
 

@@ -16,10 +16,10 @@ use Rattle.paper.specs.Image.{Set, no_row, row_at}
 use Rattle.paper.specs.Mesh.{name, same_ent, ent_of}
 use Rattle.paper.specs.Sound.{name_of_row, remote_slot_of, twin_agrees}
 use Rattle.laws.proofs.Tests.{split4, split5, decide, or_l, or_r, eq-eqb, both}
-use Rattle.laws.proofs.Members.{every_in, in_every, member_in, map_in, in_get_d}
-use Rattle.laws.proofs.Agree.{get_d_map}
+use Rattle.laws.proofs.Members.{every_in, in_every, member_in, map_in, in_get_or}
+use Rattle.laws.proofs.Agree.{get_or_map}
 use Rattle.laws.proofs.Ascending.{least}
-use Rattle.laws.proofs.Places.{index_get_d}
+use Rattle.laws.proofs.Places.{index_get_or}
 use Rattle.part_set.proofs.MaskParts.{parts_in_in, in_parts_in, parts_in_ascends, in_others}
 use Rattle.demands.proofs.Sound.Facts.{Each}
 use Rattle.demands.proofs.Sound.Rows.{row}
@@ -84,8 +84,8 @@ module _ (S : Set) (own : Each S (λ p s. (p < 64) × T (has (row S p s).mask p)
       let rows = get_or S p [] in
       let n = length-map rows name_of_row in
       let at : (i : ℕ) → i < length rows → index_of (name_of_row (get_or rows i no_row)) (map name_of_row rows) ≡ i = λ i h.
-      ap (λ (k : ℕ). index_of k (map name_of_row rows)) (sym (get_d_map name_of_row rows i no_row 0 h))
-      ∙ index_get_d (map name_of_row rows) (ascends p) i (subst (λ (z : ℕ). i < z) (sym n) h) in
+      ap (λ (k : ℕ). index_of k (map name_of_row rows)) (sym (get_or_map name_of_row rows i no_row 0 h))
+      ∙ index_get_or (map name_of_row rows) (ascends p) i (subst (λ (z : ℕ). i < z) (sym n) h) in
       sym (at s hs) ∙ ap (λ (k : ℕ). index_of k (map name_of_row rows)) e ∙ at t ht
 
   -- and no two lowest copies have one name
@@ -120,7 +120,7 @@ module _ (S : Set) (own : Each S (λ p s. (p < 64) × T (has (row S p s).mask p)
         go q (inl t) =
             let r = row S p s in
             let w = map_in name_of_row (get_or S q []) (name_of_row r) (member_in (name_of_row r) (map name_of_row (get_or S q [])) t) in
-            let v = in_get_d (get_or S q []) w.0 no_row w.1 in
+            let v = in_get_or (get_or S q []) w.0 no_row w.1 in
             let e : name_of_row r ≡ name_of_row (row S q v.0) = w.2 ∙ ap name_of_row v.2 in
             or_r (not (member (name_of_row r) (map name_of_row (get_or S q [])))) (has r.mask q)
             (subst (λ (m : ℕ). T (has m q)) (sym (same_mask p s q v.0 h v.1 e)) (own q v.0 v.1).1)

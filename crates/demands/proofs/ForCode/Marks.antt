@@ -18,7 +18,7 @@ use Rattle.paper.specs.Mesh.{Entity, name, ent_of, parts_of, mesh_of, is_object,
 use Rattle.paper.specs.Sound.{name_of_row, remote_slot_of}
 use Rattle.paper.specs.Placement.{Placement, objects, spread}
 use Rattle.laws.proofs.Tests.{iff_eq, both, split2, split3, join3, decide, T_true, ne_eqb, eq-eqb}
-use Rattle.laws.proofs.Members.{some_in, in_some, get_d_in}
+use Rattle.laws.proofs.Members.{some_in, in_some, get_or_in}
 use Rattle.laws.proofs.Ranges.{in_up_to, up_to_in}
 use Rattle.part_set.proofs.MaskParts.{has_lt, parts_in_in, in_parts_in, in_others}
 use Rattle.demands.proofs.Entities.Names.{in_holds}
@@ -65,7 +65,7 @@ module _ (S : Set) (f : Sound S) where
       let m : In (ent S p s) mesh = in_mesh (parts_of S) (sound_fit S f) p (ent S p s) (in_part_lem S p s h) in
       let held = in_holds mesh (ent S p s) m in
       let l = slot_lt mesh k held in
-      (l, ascends_uniq name mesh (sort_ascends (flat (parts_of S))) (get_or mesh (slot_in mesh k) no_ent) (ent S p s) (get_d_in mesh (slot_in mesh k) no_ent l) m (slot_name mesh k held))
+      (l, ascends_uniq name mesh (sort_ascends (flat (parts_of S))) (get_or mesh (slot_in mesh k) no_ent) (ent S p s) (get_or_in mesh (slot_in mesh k) no_ent l) m (slot_name mesh k held))
 
   -- the slot of a copy is that of its name
   pub copy_slot_lem : (p s r : ℕ) → s < length (get_or S p []) → T (has (row S p s).mask r) → slot_in (get_or (parts_of S) r []) (name_of_row (row S p s)) ≡ copy_slot S p s r

@@ -18,7 +18,7 @@ use Rattle.paper.specs.Image.{Row, row_bytes, bytes_of_part, image_of, row_total
 use Rattle.paper.specs.Mesh.{Entity, name_of, name, no_ent, slot_in}
 use Rattle.paper.specs.Placement.{Placement, spread, body_in, row_for, rows_for, shape_fits, WellPlaced}
 use Rattle.laws.proofs.Tests.{split2}
-use Rattle.laws.proofs.Members.{get_d_in, in_get_d}
+use Rattle.laws.proofs.Members.{get_or_in, in_get_or}
 use Rattle.laws.proofs.Agree.{map_of_map}
 use Rattle.laws.proofs.Totals.{total-same, total_add, total_zero, up_to_snoc, kept_none, kept_suc}
 use Rattle.field.proofs.Numbers.{length-bytes, length-written}
@@ -147,9 +147,9 @@ module _ (n : ℕ) (es : List Entity) (place : Placement) (W : WellPlaced n es p
       let e = get_or es i no_ent in
       let m = mask_at ps es i in
       let few = few_parts n es place W in
-      let some = in_get_d (parts_in m) q 0 (in_parts_in m q (omega arith) t) in
+      let some = in_get_or (parts_in m) q 0 (in_parts_in m q (omega arith) t) in
       let slot : ℕ → ℕ = λ r. slot_in (get_or ps r []) (name e) in
-      bytes-length (row_for ps q e) (body_size (get_or ps q []) es e (ent_fits_lem n es place W e (get_d_in es i no_ent l)) e.dim refl)
+      bytes-length (row_for ps q e) (body_size (get_or ps q []) es e (ent_fits_lem n es place W e (get_or_in es i no_ent l)) e.dim refl)
       ∙ omega (arith, length-map (others m q) slot, others-count m q (omega arith) t, some.1, count_parts m)
 
   -- the rows of a part

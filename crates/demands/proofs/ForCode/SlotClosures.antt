@@ -16,8 +16,8 @@ use Rattle.paper.specs.Mesh.{Entity, name_of, name, slots_of, shape_of, ent_of, 
 use Rattle.paper.specs.Sound.{name_of_row}
 use Rattle.laws.proofs.Tests.{iff_eq, both, split2}
 use Rattle.laws.proofs.Members.{map_in, flat_map_in, member_in}
-use Rattle.laws.proofs.Agree.{map_same, map_of_map, get_d_map}
-use Rattle.laws.proofs.Ascending.{asc_get_d}
+use Rattle.laws.proofs.Agree.{map_same, map_of_map, get_or_map}
+use Rattle.laws.proofs.Ascending.{asc_get_or}
 use Rattle.laws.proofs.Keyed.{ascends_uniq}
 use Rattle.laws.proofs.Increasing.{member_after}
 use Rattle.demands.proofs.Entities.Names.{Uniq, holds_in, in_holds}
@@ -68,9 +68,9 @@ module _ (S : Set) (f : Sound S) (p : ℕ) where
   names_up a b ha hb l =
       omega (
         arith,
-        asc_get_d (map name_of_row rows) (rows_ascend rows (f.copied.order p)) a b l (subst (λ (z : ℕ). b < z) (sym (length-map rows name_of_row)) hb),
-        get_d_map name_of_row rows a no_row 0 ha,
-        get_d_map name_of_row rows b no_row 0 hb,
+        asc_get_or (map name_of_row rows) (rows_ascend rows (f.copied.order p)) a b l (subst (λ (z : ℕ). b < z) (sym (length-map rows name_of_row)) hb),
+        get_or_map name_of_row rows a no_row 0 ha,
+        get_or_map name_of_row rows b no_row 0 hb,
       )
 
   faces_at_lem : (d s : ℕ) → At (suc d) s → (t : ℕ) → In t (slots_at rows (suc d) s) → At d t

@@ -17,9 +17,9 @@ use Rattle.paper.specs.Image.{Row, no_row}
 use Rattle.paper.specs.Mesh.{Entity, name, slots_of, shape_of, ent_of, shape_in, vertices, faces_of, share_edges, simplex}
 use Rattle.paper.specs.Sound.{name_of_row, slots_stand, boundary_stands}
 use Rattle.laws.proofs.Tests.{decide, true_T}
-use Rattle.laws.proofs.Members.{in_map, map_in, get_d_in, keep_in}
-use Rattle.laws.proofs.Agree.{map_same, map_of_map, get_d_map, every-same, some_same, pairwise-same, every_of_map, some_of_map, pairwise_of_map}
-use Rattle.laws.proofs.Ascending.{asc_get_d, asc_places}
+use Rattle.laws.proofs.Members.{in_map, map_in, get_or_in, keep_in}
+use Rattle.laws.proofs.Agree.{map_same, map_of_map, get_or_map, every-same, some_same, pairwise-same, every_of_map, some_of_map, pairwise_of_map}
+use Rattle.laws.proofs.Ascending.{asc_get_or, asc_places}
 use Rattle.laws.proofs.Keyed.{ascends_uniq}
 use Rattle.laws.proofs.Increasing.{unions_in, map-unions, same_after, member_after, keep_others_after}
 use Rattle.demands.proofs.Entities.Names.{Uniq}
@@ -67,14 +67,14 @@ module _ (rows : List Row) (small : (t : ℕ) → t < length rows → (get_or ro
   Stands s = (t : ℕ) → t ≤ s → T (slots_stand rows (get_or rows t no_row))
 
   name_at : (t : ℕ) → t < length rows → get_or (map name_of_row rows) t 0 ≡ name_of_row (get_or rows t no_row)
-  name_at t h = get_d_map name_of_row rows t no_row 0 h
+  name_at t h = get_or_map name_of_row rows t no_row 0 h
 
   -- of rows of one dimension the later has the greater number
   num_up : (d a b : ℕ) → At d a → At d b → a < b → num a < num b
   unfolding num At
   num_up d a b p q h =
       let n = length-map rows name_of_row in
-      omega (arith, asc_get_d (map name_of_row rows) ascends a b h (omega (arith, q.0)), name_at a p.0, name_at b q.0, p.1, q.1)
+      omega (arith, asc_get_or (map name_of_row rows) ascends a b h (omega (arith, q.0)), name_at a p.0, name_at b q.0, p.1, q.1)
 
   -- a row of lower dimension comes before
   comes_before : (d t s : ℕ) → At d t → At (suc d) s → t < s
@@ -102,7 +102,7 @@ module _ (rows : List Row) (small : (t : ℕ) → t < length rows → (get_or ro
   unfolding At es num ent_of
   look_at d t p =
       let r = get_or rows t no_row in
-      look es uniq d (ent_of rows r) (in_map (ent_of rows) rows r (get_d_in rows t no_row p.0)) p.1 ∙ ap (λ (k : ℕ). shape_of rows k r.body) p.1
+      look es uniq d (ent_of rows r) (in_map (ent_of rows) rows r (get_or_in rows t no_row p.0)) p.1 ∙ ap (λ (k : ℕ). shape_of rows k r.body) p.1
 
   shape_slots : (d t : ℕ) → At (suc d) t → shape_in es (suc d) (num t) ≡ map num (slots_at rows (suc d) t)
   unfolding shape_of num

@@ -17,10 +17,10 @@ use Rattle.part_set.specs.Masks.{has}
 use Rattle.paper.specs.Mesh.{Entity, Parts, name, no_ent, closure, is_object, holds, slot_in, objects_in}
 use Rattle.paper.specs.Placement.{Placement, objects, closures, spread, residence_in, place_in, places_of, WellPlaced}
 use Rattle.laws.proofs.Tests.{T_true, ne_eqb, iff_eq, both, split2, eq-eqb}
-use Rattle.laws.proofs.Members.{keep_in, in_keep, member_in, in_member, some_in, in_some, get_d_in, flat_map_in, in_flat_map}
-use Rattle.laws.proofs.Agree.{keep_agree, keep_of_map, get_d_map}
+use Rattle.laws.proofs.Members.{keep_in, in_keep, member_in, in_member, some_in, in_some, get_or_in, flat_map_in, in_flat_map}
+use Rattle.laws.proofs.Agree.{keep_agree, keep_of_map, get_or_map}
 use Rattle.laws.proofs.Keyed.{head_below, tail_ascends, keep-ascends, ascending_ext}
-use Rattle.laws.proofs.Ranges.{length_up_to, get_d_up_to}
+use Rattle.laws.proofs.Ranges.{length_up_to, get_or_up_to}
 use Rattle.laws.proofs.Totals.{kept_none, kept_suc}
 use Rattle.demands.proofs.Entities.Names.{holds_in, in_holds}
 use Rattle.demands.proofs.Mesh.Spread.{spread-length, spread-part, spread_in}
@@ -57,7 +57,7 @@ module _ {A : Type 0} where
       ext_get_or d (take i xs) (map (λ j. get_or xs j d) (up_to i)) (n ∙ sym (length-map (up_to i) (λ j. get_or xs j d) ∙ length_up_to i)) (λ j l.
       let l' : j < i = subst (λ (z : ℕ). j < z) n l in
       get_or-take i xs j d l'
-      ∙ sym (get_d_map (λ j. get_or xs j d) (up_to i) j 0 d (subst (λ (z : ℕ). j < z) (sym (length_up_to i)) l') ∙ ap (λ (k : ℕ). get_or xs k d) (get_d_up_to i j 0 l')))
+      ∙ sym (get_or_map (λ j. get_or xs j d) (up_to i) j 0 d (subst (λ (z : ℕ). j < z) (sym (length_up_to i)) l') ∙ ap (λ (k : ℕ). get_or xs k d) (get_or_up_to i j 0 l')))
 
   pub keep-take : (f : A → Bool) (xs : List A) (i : ℕ) (d : A) → i ≤ length xs → keep f (take i xs) ≡ map (λ j. get_or xs j d) (keep (λ j. f (get_or xs j d)) (up_to i))
   keep-take f xs i d h = ap (keep f) (take_read xs i d h) ∙ keep_of_map f (λ j. get_or xs j d) (up_to i)
@@ -73,7 +73,7 @@ module _ {A : Type 0} where
   index_kept key f (x ∷ xs) zero d t h k = rw (T_true (f x) k, T_true (eqb (key x) (key x)) (eqb_refl (key x)))
   index_kept key f (x ∷ xs) (suc i) d t h k =
       let a = get_or xs i d in
-      let below : key x < key a = head_below key x xs t a (get_d_in xs i d (le_of_suc-le-suc h)) in
+      let below : key x < key a = head_below key x xs t a (get_or_in xs i d (le_of_suc-le-suc h)) in
       go (f x) (ne_eqb (key a) (key x) (λ e. omega arith)) (index_kept key f xs i d (tail_ascends key x xs t) (le_of_suc-le-suc h) k)
     where
       go : (b : Bool) → eqb (key (get_or xs i d)) (key x) ≡ false → index_of (key (get_or xs i d)) (map key (keep f xs)) ≡ length (keep f (take i xs))
@@ -130,7 +130,7 @@ module _ (n : ℕ) (es : List Entity) (place : Placement) where
       let k = name (get_or es i no_ent) in
       let at : Entity → Bool = λ o. eqb (place (name o)) q in
       let cl : Entity → List ℕ = λ o. closure o.dim es o.number in
-      has-closures q h (get_or es i no_ent) (get_d_in es i no_ent l)
+      has-closures q h (get_or es i no_ent) (get_or_in es i no_ent l)
       ∙ iff_eq (member k (flat (map cl (keep at (objects es))))) (some? (λ o. at o && member k (cl o)) (objects es))
       (λ t. let w = flat_map_in cl (keep at (objects es)) k (member_in k (flat (map cl (keep at (objects es)))) t) in
       let v = keep_in at (objects es) w.0 w.1 in
@@ -154,7 +154,7 @@ module _ (n : ℕ) (es : List Entity) (place : Placement) (W : WellPlaced n es p
   mask_some i l =
       let ps = spread n es place in
       let e = get_or es i no_ent in
-      let w = mesh_in ps (spread_fit n es place W) e (subst (λ (fs : List Entity). In e fs) (sym (spread-mesh n es place W)) (get_d_in es i no_ent l)) in
+      let w = mesh_in ps (spread_fit n es place W) e (subst (λ (fs : List Entity). In e fs) (sym (spread-mesh n es place W)) (get_or_in es i no_ent l)) in
       (w.0, subst (λ (z : ℕ). w.0 < z) (spread-length n es place) w.1, holds-residence ps w.0 e w.2)
 
   pub mask_not_none : (i : ℕ) → i < length es → mask_at (spread n es place) es i ≡ 0 → ⊥

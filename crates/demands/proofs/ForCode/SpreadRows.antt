@@ -15,9 +15,9 @@ use Rattle.part_set.specs.Masks.{has, parts_in, others}
 use Rattle.paper.specs.Image.{Row}
 use Rattle.paper.specs.Mesh.{Entity, Parts, name_of, name, no_ent, slot_in, objects_in, poorest, owner_among}
 use Rattle.paper.specs.Placement.{Placement, objects, spread, residence_in, body_in, row_for, rows_for, WellPlaced}
-use Rattle.laws.proofs.Members.{get_d_in, in_map, in_keep, keep_in}
+use Rattle.laws.proofs.Members.{get_or_in, in_map, in_keep, keep_in}
 use Rattle.laws.proofs.Agree.{map_same}
-use Rattle.laws.proofs.Places.{index_get_d}
+use Rattle.laws.proofs.Places.{index_get_or}
 use Rattle.laws.proofs.Ranges.{in_up_to, up_to_in}
 use Rattle.part_set.proofs.MaskParts.{has_lt, parts_in_in, others_in}
 use Rattle.demands.proofs.Entities.Fits.{fits_closed}
@@ -87,7 +87,7 @@ pub index_of_lem : (es : List Entity) → T (ascending (map name es)) → (i : �
 unfolding slot_in
 index_of_lem es up i l =
     ap (λ (k : ℕ). index_of k (map name es)) (sym (get_or-map name es i no_ent))
-    ∙ index_get_d (map name es) up i (subst (λ (z : ℕ). i < z) (sym (length-map es name)) l)
+    ∙ index_get_or (map name es) up i (subst (λ (z : ℕ). i < z) (sym (length-map es name)) l)
 
 module _ (n : ℕ) (es : List Entity) (place : Placement) (W : WellPlaced n es place) where
   -- an entity that has the bit of a part is there
@@ -103,7 +103,7 @@ module _ (n : ℕ) (es : List Entity) (place : Placement) (W : WellPlaced n es p
   face_index q i d k h l t p m =
       let ps = spread n es place in
       let e = get_or es i no_ent in
-      let held = ((fits_closed es (ent_fits_lem n es place W)).shape e d k (get_d_in es i no_ent l) p m).1 in
+      let held = ((fits_closed es (ent_fits_lem n es place W)).shape e d k (get_or_in es i no_ent l) p m).1 in
       let there = ((part_closed ps (spread_fit n es place W) q).shape e d k (has_in_part q i h l t) p m).1 in
       let is = slot_name es (name_of d k) held in (
         slot_lt es (name_of d k) held,

@@ -11,8 +11,8 @@ use Rattle.laws.specs.Lists.{In, keep, up_to, member}
 use Rattle.paper.specs.Mesh.{Entity, Parts, name, is_object, holds, closure}
 use Rattle.paper.specs.Placement.{Placement, objects, closures, spread, place_in}
 use Rattle.laws.proofs.Members.{keep_in, in_keep, member_in, in_member, part_lt, flat_map_in, in_flat_map}
-use Rattle.laws.proofs.Agree.{get_d_map}
-use Rattle.laws.proofs.Ranges.{length_up_to, get_d_up_to}
+use Rattle.laws.proofs.Agree.{get_or_map}
+use Rattle.laws.proofs.Ranges.{length_up_to, get_or_up_to}
 use Rattle.laws.proofs.Tests.{eq-eqb}
 use Rattle.demands.proofs.Entities.Closures.{closure_of}
 use native.Mathlib.Nat.{not-suc-le-zero, le_of_suc-le-suc}
@@ -57,7 +57,7 @@ module _ (n : ℕ) (es : List Entity) (place : Placement) where
   unfolding spread
   spread-part p h =
       let part : ℕ → List Entity = λ p. keep (λ e. member (name e) (closures es place p)) es in
-      get_d_map part (up_to n) p 0 [] (subst (λ (z : ℕ). p < z) (sym (length_up_to n)) h) ∙ ap part (get_d_up_to n p 0 h)
+      get_or_map part (up_to n) p 0 [] (subst (λ (z : ℕ). p < z) (sym (length_up_to n)) h) ∙ ap part (get_or_up_to n p 0 h)
 
   pub spread_in : (p : ℕ) (e : Entity) → In e (get_or (spread n es place) p []) → (p < n) × In e es × Under es place p (name e)
   spread_in p e i =

@@ -12,8 +12,8 @@ use Rattle.paper.specs.Image.{Row}
 use Rattle.paper.specs.Mesh.{Parts}
 use Rattle.paper.specs.Placement.{row_for, rows_for}
 use Rattle.laws.proofs.Tests.{decide}
-use Rattle.laws.proofs.Agree.{get_d_map}
-use Rattle.laws.proofs.Ranges.{length_up_to, get_d_up_to}
+use Rattle.laws.proofs.Agree.{get_or_map}
+use Rattle.laws.proofs.Ranges.{length_up_to, get_or_up_to}
 
 pub rows-count : (ps : Parts) → length (rows_for ps) ≡ length ps
 unfolding rows_for
@@ -29,8 +29,8 @@ rows-part ps p = go (decide (ltb p (length ps)))
     go : T (ltb p (length ps)) ⊎ T (not (ltb p (length ps))) → get_or (map (λ p. map (row_for ps p) (get_or ps p [])) (up_to (length ps))) p [] ≡ map (row_for ps p) (get_or ps p [])
     go (inl t) =
         let h = ltb→lt p (length ps) t in
-        get_d_map (λ p. map (row_for ps p) (get_or ps p [])) (up_to (length ps)) p 0 [] (subst (λ (z : ℕ). p < z) (sym (length_up_to (length ps))) h)
-        ∙ ap part (get_d_up_to (length ps) p 0 h)
+        get_or_map (λ p. map (row_for ps p) (get_or ps p [])) (up_to (length ps)) p 0 [] (subst (λ (z : ℕ). p < z) (sym (length_up_to (length ps))) h)
+        ∙ ap part (get_or_up_to (length ps) p 0 h)
     go (inr t) =
         let h = nltb→le p (length ps) t in
         get_or-eq_default (map part (up_to (length ps))) [] {n = p} (subst (λ (z : ℕ). z ≤ p) (sym (length-map (up_to (length ps)) part ∙ length_up_to (length ps))) h)

@@ -16,7 +16,7 @@ use Rattle.paper.specs.Mesh.{Entity, name_of, name, slots_of, shape_of, holds, s
 use Rattle.paper.specs.Placement.{body_in}
 use Rattle.laws.proofs.Tests.{and_l, and_r}
 use Rattle.field.proofs.Numbers.{words_back}
-use Rattle.laws.proofs.Agree.{every_map, get_d_map, map_of_map, map_self}
+use Rattle.laws.proofs.Agree.{every_map, get_or_map, map_of_map, map_self}
 use Rattle.laws.proofs.Places.{index_at, index_lt}
 use Rattle.demands.proofs.Entities.Names.{name-number}
 use Rattle.laws.proofs.Members.{every_in}
@@ -35,7 +35,7 @@ slot_lt es k h = subst (λ (n : ℕ). index_of k (map name es) < n) (length-map 
 -- what stands at the place of a name has that name
 pub slot_name : (es : List Entity) (k : ℕ) → T (holds es k) → name (get_or es (slot_in es k) no_ent) ≡ k
 unfolding holds slot_in
-slot_name es k h = sym (ListN.get_d_map name es (slot_in es k) no_ent) ∙ index_at k (map name es) h
+slot_name es k h = sym (ListN.get_or-map name es (slot_in es k) no_ent) ∙ index_at k (map name es) h
 
 module _ (es : List Entity) (small : (i : ℕ) → (get_or es i no_ent).number < 2 ^ 32) (few : length es < 2 ^ 32) where
   slot_number : (d k : ℕ) → T (standing es d k) → (get_or es (slot_in es (name_of d k)) no_ent).number ≡ k
@@ -68,5 +68,5 @@ module _ (es : List Entity) (small : (i : ℕ) → (get_or es i no_ent).number <
       ap (λ (ss : List ℕ). map (λ s. (get_or (map f es) s no_row).number) ss) (slots-written d shape n t)
       ∙ map_of_map (λ s. (get_or (map f es) s no_row).number) g shape
       ∙ map_self (λ k. (get_or (map f es) (g k) no_row).number) shape (λ k i. let h = every_in (standing es d) shape t k i in
-      ap (λ (r : Row). r.number) (get_d_map f es (g k) no_ent no_row (slot_lt es (name_of d k) (and_r (ltb k (2 ^ 32)) (holds es (name_of d k)) h)))
+      ap (λ (r : Row). r.number) (get_or_map f es (g k) no_ent no_row (slot_lt es (name_of d k) (and_r (ltb k (2 ^ 32)) (holds es (name_of d k)) h)))
       ∙ same (get_or es (g k) no_ent) ∙ slot_number d k h)

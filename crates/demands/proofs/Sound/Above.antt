@@ -12,7 +12,7 @@ use Rattle.paper.specs.Image.{Row, Set, no_row}
 use Rattle.paper.specs.Mesh.{bounds, ent_of}
 use Rattle.paper.specs.Sound.{rows_above, residence}
 use Rattle.laws.proofs.Tests.{eq-eqb}
-use Rattle.laws.proofs.Members.{get_d_in, in_get_d, keep_in, in_keep, part_lt, flat_map_in, in_flat_map}
+use Rattle.laws.proofs.Members.{get_or_in, in_get_or, keep_in, in_keep, part_lt, flat_map_in, in_flat_map}
 use Rattle.demands.proofs.Sound.Rows.{ent, row}
 
 -- ---- the rows above an entity
@@ -21,17 +21,17 @@ pub above_in : (S : Set) (k : ℕ) (a : Row) → In a (rows_above S k) → (q : 
 unfolding rows_above
 above_in S k a i =
     let w = flat_map_in (λ rows. keep (λ r. bounds k (ent_of rows r)) rows) S a i in
-    let v = in_get_d S w.0 [] w.1 in
+    let v = in_get_or S w.0 [] w.1 in
     let j = keep_in (λ r. bounds k (ent_of (get_or S v.0 []) r)) (get_or S v.0 []) a (subst (λ (rows : List Row). In a (keep (λ r. bounds k (ent_of rows r)) rows)) v.2 w.2) in
-    let g = in_get_d (get_or S v.0 []) a no_row j.0 in
+    let g = in_get_or (get_or S v.0 []) a no_row j.0 in
     (v.0, g.0, g.1, g.2, subst (λ (r : Row). T (bounds k (ent_of (get_or S v.0 []) r))) g.2 j.1)
 
 pub in_above : (S : Set) (k q t : ℕ) → t < length (get_or S q []) → T (bounds k (ent S q t)) → In (row S q t) (rows_above S k)
 unfolding rows_above
 in_above S k q t h b =
     let rows = get_or S q [] in
-    let i = get_d_in rows t no_row h in
-    in_flat_map (λ rows. keep (λ r. bounds k (ent_of rows r)) rows) S rows (get_or rows t no_row) (get_d_in S q [] (part_lt S q (get_or rows t no_row) i))
+    let i = get_or_in rows t no_row h in
+    in_flat_map (λ rows. keep (λ r. bounds k (ent_of rows r)) rows) S rows (get_or rows t no_row) (get_or_in S q [] (part_lt S q (get_or rows t no_row) i))
     (in_keep (λ r. bounds k (ent_of rows r)) rows (get_or rows t no_row) i b)
 
 -- ---- the test, taken apart and made

@@ -15,7 +15,7 @@ use Rattle.paper.specs.Mesh.{Entity, name_of, name, slots_of, shape_of, ent_of, 
 use Rattle.paper.specs.Sound.{body_fitting, remote_slot_of, owned_well}
 use Rattle.paper.specs.Placement.{residence_in, body_in, row_for, rows_for}
 use Rattle.laws.proofs.Agree.{map_of_map, map_same, map_self}
-use Rattle.laws.proofs.Members.{in_get_d}
+use Rattle.laws.proofs.Members.{in_get_or}
 use Rattle.demands.proofs.Entities.Names.{in_holds}
 use Rattle.part_set.proofs.MaskBits.{mask_of_is}
 use Rattle.laws.proofs.Places.{read_places}
@@ -102,7 +102,7 @@ module _ (S : Set) (f : Sound S) where
       let same : get_or (rows_for (parts_of S)) p [] ≡ map (λ r. row_for (parts_of S) p (ent_of rows r)) rows =
       rows-part (parts_of S) p ∙ ap (map (row_for (parts_of S) p)) (parts_at S p) ∙ map_of_map (row_for (parts_of S) p) (ent_of rows) rows in
       sym (same ∙ map_self (λ r. row_for (parts_of S) p (ent_of rows r)) rows
-      (λ r i. let w = in_get_d rows r no_row i in ap (λ (x : Row). row_for (parts_of S) p (ent_of rows x)) w.2 ∙ row_is p w.0 w.1 ∙ sym w.2))
+      (λ r i. let w = in_get_or rows r no_row i in ap (λ (x : Row). row_for (parts_of S) p (ent_of rows x)) w.2 ∙ row_is p w.0 w.1 ∙ sym w.2))
 
   pub sound_canon : S ≡ rows_for (parts_of S)
   sound_canon = ext_get_or [] S (rows_for (parts_of S)) (sym (rows-count (parts_of S) ∙ parts_count S)) (λ p h. part_is p)

@@ -15,15 +15,15 @@ use Rattle.paper.specs.Image.{Row, Set, no_row, row_at}
 use Rattle.paper.specs.Mesh.{Entity, name, same_ent, ent_of, parts_of, holds, slot_in}
 use Rattle.paper.specs.Sound.{value_fitting, body_fitting, fields_fit, name_of_row, ordered, remote_slot_of, twin_agrees, copies_agree}
 use Rattle.laws.proofs.Tests.{split2, split4, split5, split8, or_either, decide, eq-eqb}
-use Rattle.laws.proofs.Agree.{map_of_map, get_d_map}
-use Rattle.laws.proofs.Members.{get_d_in, in_get_d, in_map, map_in, every_in, part_lt}
+use Rattle.laws.proofs.Agree.{map_of_map, get_or_map}
+use Rattle.laws.proofs.Members.{get_or_in, in_get_or, in_map, map_in, every_in, part_lt}
 use Rattle.laws.proofs.Ranges.{in_up_to}
 use Rattle.demands.proofs.Entities.Names.{in_holds, holds_in, name_dim, name-number}
 use Rattle.laws.proofs.Keyed.{ascends_uniq}
 use Rattle.paper.proofs.Codec.{Wide}
 use Rattle.laws.proofs.Same.{same_eq}
 use Rattle.laws.proofs.Ascending.{asc_adjacent}
-use Rattle.laws.proofs.Places.{index_get_d}
+use Rattle.laws.proofs.Places.{index_get_or}
 use Rattle.part_set.proofs.MaskParts.{has_lt, in_others}
 use Rattle.demands.proofs.Sound.Facts.{Copied}
 
@@ -37,7 +37,7 @@ ent S p s = ent_of (get_or S p []) (row S p s)
 
 pub parts_at : (S : Set) (p : ℕ) → get_or (parts_of S) p [] ≡ map (ent_of (get_or S p [])) (get_or S p [])
 unfolding parts_of
-parts_at S p = ListN.get_d_map (λ rows. map (ent_of rows) rows) S p []
+parts_at S p = ListN.get_or-map (λ rows. map (ent_of rows) rows) S p []
 
 pub parts_count : (S : Set) → length (parts_of S) ≡ length S
 unfolding parts_of
@@ -46,12 +46,12 @@ parts_count S = length-map S (λ rows. map (ent_of rows) rows)
 pub part_in : (S : Set) (p : ℕ) (e : Entity) → In e (get_or (parts_of S) p []) → (s : ℕ) × (s < length (get_or S p [])) × (e ≡ ent S p s)
 part_in S p e i =
     let w = map_in (ent_of (get_or S p [])) (get_or S p []) e (subst (λ (l : List Entity). In e l) (parts_at S p) i) in
-    let v = in_get_d (get_or S p []) w.0 no_row w.1 in
+    let v = in_get_or (get_or S p []) w.0 no_row w.1 in
     (v.0, v.1, w.2 ∙ ap (ent_of (get_or S p [])) v.2)
 
 pub in_part_lem : (S : Set) (p s : ℕ) → s < length (get_or S p []) → In (ent S p s) (get_or (parts_of S) p [])
 in_part_lem S p s h =
-    subst (λ (l : List Entity). In (ent S p s) l) (sym (parts_at S p)) (in_map (ent_of (get_or S p [])) (get_or S p []) (row S p s) (get_d_in (get_or S p []) s no_row h))
+    subst (λ (l : List Entity). In (ent S p s) l) (sym (parts_at S p)) (in_map (ent_of (get_or S p [])) (get_or S p []) (row S p s) (get_or_in (get_or S p []) s no_row h))
 
 -- the names of a part are those of its rows
 part_names : (S : Set) (p : ℕ) → map name (get_or (parts_of S) p []) ≡ map name_of_row (get_or S p [])
@@ -60,7 +60,7 @@ part_names S p = ap (map name) (parts_at S p) ∙ map_of_map name (ent_of (get_o
 
 pub name_at : (S : Set) (p s : ℕ) → s < length (get_or S p []) → get_or (map name (get_or (parts_of S) p [])) s 0 ≡ name (ent S p s)
 unfolding ent_of
-name_at S p s h = ap (λ (l : List ℕ). get_or l s 0) (part_names S p) ∙ get_d_map name_of_row (get_or S p []) s no_row 0 h
+name_at S p s h = ap (λ (l : List ℕ). get_or l s 0) (part_names S p) ∙ get_or_map name_of_row (get_or S p []) s no_row 0 h
 
 pub names_count : (S : Set) (p : ℕ) → length (map name (get_or (parts_of S) p [])) ≡ length (get_or S p [])
 names_count S p = ap length (part_names S p) ∙ length-map (get_or S p []) name_of_row
@@ -114,8 +114,8 @@ step_up rows o s h =
     let n = length-map rows name_of_row in
     omega (
       arith,
-      get_d_map name_of_row rows s no_row 0 (omega (arith, n)),
-      get_d_map name_of_row rows (suc s) no_row 0 (omega (arith, n)),
+      get_or_map name_of_row rows s no_row 0 (omega (arith, n)),
+      get_or_map name_of_row rows (suc s) no_row 0 (omega (arith, n)),
       ltb→lt (name_of_row (get_or rows s no_row)) (name_of_row (get_or rows (suc s) no_row)) (o (suc s) (omega (arith, n))),
     )
 
@@ -156,7 +156,7 @@ module _ (S : Set) (f : Copied S) where
   unfolding slot_in
   slot_is p s h =
       ap (λ (k : ℕ). index_of k (map name (get_or (parts_of S) p []))) (sym (name_at S p s h))
-      ∙ index_get_d (map name (get_or (parts_of S) p [])) (names_ascend p) s (subst (λ (n : ℕ). s < n) (sym (names_count S p)) h)
+      ∙ index_get_or (map name (get_or (parts_of S) p [])) (names_ascend p) s (subst (λ (n : ℕ). s < n) (sym (names_count S p)) h)
 
   -- rule 10
   pub twin : (p s q : ℕ) → s < length (get_or S p []) → In q (others (row S p s).mask p) → Twin S p s q

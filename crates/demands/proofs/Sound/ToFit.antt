@@ -19,7 +19,7 @@ use Rattle.laws.proofs.Tests.{split2, both, eq-eqb}
 use Rattle.laws.proofs.Members.{map_in, every_in, in_every, some_in, in_flat, flat_in, part_lt}
 use Rattle.demands.proofs.Entities.Names.{in_holds, not_object, object_or}
 use Rattle.part_set.proofs.MaskBits.{has_mask_of}
-use Rattle.laws.proofs.Ascending.{asc_map, asc_get_d, only_one}
+use Rattle.laws.proofs.Ascending.{asc_map, asc_get_or, only_one}
 use Rattle.part_set.proofs.MaskParts.{has_lt, in_parts_in}
 use Rattle.demands.proofs.Rows.Bytes.{length-longs, longs_small}
 use Rattle.demands.proofs.Entities.Fits.{EntOk, of_faces}
@@ -52,7 +52,7 @@ module _ (S : Set) (f : Copied S) where
       → (row S p a).number < (row S p b).number
   unfolding ent_of
   numbers_ascend p a b d l ha hb da db =
-      omega (arith, asc_get_d (map name (get_or (parts_of S) p [])) (names_ascend S f p) a b l (subst (λ (n : ℕ). b < n) (sym (names_count S p)) hb), name_at S p a ha, name_at S p b hb)
+      omega (arith, asc_get_or (map name (get_or (parts_of S) p [])) (names_ascend S f p) a b l (subst (λ (n : ℕ). b < n) (sym (names_count S p)) hb), name_at S p a ha, name_at S p b hb)
 
   -- the entity at a slot, held by its name
   slot_held : (p t d : ℕ) → t < length (get_or S p []) → (row S p t).dim ≡ d → T (holds (get_or (parts_of S) p []) (name_of d (row S p t).number))

@@ -2,7 +2,7 @@
 use Prim.Native.Nat.{◌-◌}
 use native.Mathlib.Omega.{arith}
 use lib.ListN.{take, drop}
-use Rattle.field.proofs.Stores.{Storing, store_none, store_more, store_done, length_run, get_d_run}
+use Rattle.field.proofs.Stores.{Storing, store_none, store_more, store_done, length_run, get_or_run}
 use Rattle.field.proofs.copy.Goals as goal
 
 pub loop-i-init : goal.loop-i-init
@@ -13,7 +13,7 @@ loop-i-preserved c =
     let l = c.loop-i in
     let a = c.args in
     let h = c.requires.0 in
-    store_more l.invariant (omega (arith, length_run a.from.now a.at a.n h)) (get_d_run a.from.now a.at a.n h l.i (omega arith))
+    store_more l.invariant (omega (arith, length_run a.from.now a.at a.n h)) (get_or_run a.from.now a.at a.n h l.i (omega arith))
 
 pub shape_of-out : goal.shape_of-out
 shape_of-out c = c.loop-i.invariant.same

@@ -2,7 +2,7 @@
 use Prim.Native.Nat.{◌-◌}
 use native.Mathlib.Omega.{arith}
 use lib.ListN.{take, drop}
-use Rattle.field.proofs.Stores.{Storing, store_none, store_more, store_done, length_run, get_d_run}
+use Rattle.field.proofs.Stores.{Storing, store_none, store_more, store_done, length_run, get_or_run}
 use Rattle.field.proofs.copy.Given as goal
 
 abbrev pub invariant-loop-i : goal.invariant-loop-i

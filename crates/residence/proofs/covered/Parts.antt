@@ -11,7 +11,7 @@ use lib.Seq.{take_all}
 use lib.Dec.{T, eqb, ltb, ltb→lt, nltb→le}
 use Rattle.laws.specs.Lists.{In, every, some?, pairwise, member}
 use Rattle.laws.proofs.Tests.{and_l, decide, iff_eq}
-use Rattle.laws.proofs.Members.{every_in, some_in, in_get_d, member_in}
+use Rattle.laws.proofs.Members.{every_in, some_in, in_get_or, member_in}
 use Rattle.paper.specs.Image.{Row, Set, no_row, row_at}
 use Rattle.paper.specs.Mesh.{ent_of, shape_of, simplex}
 use Rattle.paper.specs.Sound.{slots_stand, boundary_stands}
@@ -82,7 +82,7 @@ module _ {b offs starts : List ℕ} {n : ℕ} {c₀ : List ℕ} (st : Standing b
   all_stand : (p : ℕ) (r : Row) → In r (get_or S p []) → T (slots_stand (get_or S p []) r)
   unfolding row_at
   all_stand p r i =
-      let w = in_get_d (get_or S p []) r no_row i in
+      let w = in_get_or (get_or S p []) r no_row i in
       subst (λ (x : Row). T (slots_stand (get_or S p []) x)) (sym w.2) (slots_stand_lem p w.0 w.1)
 
   module _ (p : ℕ) (hp : p < n) where

@@ -9,7 +9,7 @@ use lib.ListN.{length, get_or, take, set}
 use lib.Seq.{take_all}
 use lib.Dec.{eqb}
 use Rattle.laws.specs.Lists.{some?, member}
-use Rattle.laws.proofs.Members.{get_d_in}
+use Rattle.laws.proofs.Members.{get_or_in}
 use Rattle.field.specs.Bytes.{u8_at, u32_at, words}
 use Rattle.field.proofs.Reading.{length-words}
 use Rattle.paper.specs.Mesh.{slots_of}
@@ -60,7 +60,7 @@ module _ {b : List ℕ} {at first dim : ℕ} {c₀ : List ℕ} (stands : RowStan
     row_slot_there i v h f =
         let fs = slots_named (row_from b at) in
         let is : get_or fs i 0 ≡ v = named_at i h ∙ sym f in
-        let l = stands.inside (get_or fs i 0) (get_d_in fs i 0 (omega (arith, named_count))) in
+        let l = stands.inside (get_or fs i 0) (get_or_in fs i 0 (omega (arith, named_count))) in
         omega (arith, l, is)
 
     pub row_turn : (i v : ℕ) (c : List ℕ) → i ≤ dim → v ≡ u32_at b (at + 24 + 4 * i) → RowInv b at first c₀ c i → RowInv b at first c₀ (set c (first + v) 1) (i + 1)

@@ -3,7 +3,7 @@ use Prim.Native.Nat.{◌+◌, ◌-◌}
 use native.Mathlib.Omega.{arith}
 use mathlib.Core.Path.{ap, sym, ◌∙◌}
 use lib.ListN.{take, drop}
-use Rattle.field.proofs.Stores.{length_run, get_d_run}
+use Rattle.field.proofs.Stores.{length_run, get_or_run}
 use Rattle.writer.specs.Entries.{entry_of}
 use Rattle.writer.proofs.Faces.{WordsLeft, words_none, words_more, words_done}
 use borrow.Author.Rules.{rules}
@@ -66,7 +66,7 @@ loop-again c =
     let t = c.before.before.before.before.before.before.loop-test.true in
     words_more f run a.out.now a.at l.out l.i _ _ l.invariant
     (omega (arith, t, length_run a.faces.now a.first a.n s.requires.listed))
-    (c.before.before.before.before.entry.ensures ∙ ap f (sym (get_d_run a.faces.now a.first a.n s.requires.listed l.i t)))
+    (c.before.before.before.before.entry.ensures ∙ ap f (sym (get_or_run a.faces.now a.first a.n s.requires.listed l.i t)))
     c.before.before.put_word.ensures
 
 same_length : tie.Need-same-length invariant-loop decreases-loop
