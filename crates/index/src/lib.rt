@@ -1,4 +1,6 @@
 // The index of an image: refusals 1 to 6, the offset and the name of every row, the first row of every part, and the search in a part.
+#![tactic(auto)]
+
 ghost use Rattle.std.specs.Prelude.{ℕ, ◌+◌, ◌≤◌, ◌<◌, ◌≡◌, length};
 ghost use Rattle.paper.specs.Image.{row_length_of};
 ghost use Rattle.paper.specs.Sound.{name_of_row};

@@ -1,4 +1,6 @@
 // Where a row stands in the tables of an image: row s of part p is row starts p + s; and the value of a row.
+#![tactic(auto)]
+
 pub mod values;
 
 ghost use Rattle.std.specs.Prelude.{◌+◌, ◌-◌, ◌≤◌, ◌<◌, ◌≡◌, length, get_or};
