@@ -1,4 +1,6 @@
 // Rule 9: a row names rows of the dimension below, in ascending slots, and they bound a simplex.
+#![tactic(auto)]
+
 ghost use Rattle.std.specs.Prelude.{min, max, ◌≡◌, [], ◌∷◌, map, get_or};
 ghost use Rattle.laws.specs.Lists.{same, pairwise, member};
 ghost use Rattle.index.specs.Index.{set_in};
@@ -11,14 +13,14 @@ ghost use Rattle.boundary.specs.Boundary.{RowThere, RowsThere, TriangleThere, Tr
 use paper::{Part, Slot};
 
 // Two slots: those that an edge names, its vertices.
-#[derive(Drop)]
+#[derive(Clone, Copy)]
 struct Pair {
     a: u32,
     b: u32,
 }
 
 // Three: those that a triangle names, its edges; or its vertices.
-#[derive(Drop)]
+#[derive(Clone, Copy)]
 struct Triple {
     a: u32,
     b: u32,
@@ -26,7 +28,7 @@ struct Triple {
 }
 
 // Four: those that a tetrahedron names, its triangles; or its vertices.
-#[derive(Drop)]
+#[derive(Clone, Copy)]
 struct Quad {
     a: u32,
     b: u32,

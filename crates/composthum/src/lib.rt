@@ -8,7 +8,7 @@ ghost use Rattle.composthum.specs.Numbers.{checked_of, HandsBack, found_of, boxe
 use paper::{BoxAnswer, CheckAnswer, LookupAnswer, MigrateAnswer, Number, Part};
 
 #[repr(C)]
-#[derive(Drop)]
+#[derive(Clone, Copy)]
 pub struct Checked {
     pub refusal: u32,
     pub major: u32,
@@ -18,7 +18,7 @@ pub struct Checked {
 }
 
 #[repr(C)]
-#[derive(Drop)]
+#[derive(Clone, Copy)]
 pub struct Migrated {
     pub refusal: u32,
     pub major: u32,
@@ -29,7 +29,7 @@ pub struct Migrated {
 }
 
 #[repr(C)]
-#[derive(Drop)]
+#[derive(Clone, Copy)]
 pub struct Found {
     pub refusal: u32,
     pub major: u32,
@@ -40,7 +40,7 @@ pub struct Found {
 
 // `any` is 0 where the part has no vertex.
 #[repr(C)]
-#[derive(Drop)]
+#[derive(Clone, Copy)]
 pub struct Boxed {
     pub refusal: u32,
     pub major: u32,

@@ -1,4 +1,6 @@
 // Rule 10: the copies of a row that its residence set names agree with it, and every part that holds the entity is in the set.
+#![tactic(auto)]
+
 ghost use Rattle.std.specs.Prelude.{◌+◌, ◌≤◌, ◌<◌, ◌≡◌, [], length, get_or};
 ghost use Rattle.laws.specs.Lists.{member, same};
 ghost use Rattle.field.specs.Bytes.{longs};

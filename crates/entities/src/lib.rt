@@ -7,7 +7,7 @@ ghost use Rattle.entities.specs.Gathering.{FieldsReadable, Listable, PartRoom, P
 use paper::{Part, Slot};
 
 // How many rows are listed, and whether each name is there once.
-#[derive(Drop)]
+#[derive(Clone, Copy)]
 pub struct Listed {
     pub count: usize,
     pub distinct: bool,

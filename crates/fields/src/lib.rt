@@ -1,4 +1,6 @@
 // Rule 7: every field of a row keeps to its layout. Rule 8: the rows of a part stand in the order of their names.
+#![tactic(auto)]
+
 ghost use Rattle.std.specs.Prelude.{◌+◌, ◌≤◌, ◌<◌, ◌≡◌, length, get_or};
 ghost use Rattle.paper.specs.Sound.{value_fitting, body_fitting, fields_fit};
 ghost use Rattle.index.specs.Index.{row_from};

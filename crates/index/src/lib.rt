@@ -13,21 +13,21 @@ ghost use Rattle.index.specs.Walk.{RowsAhead, RowsWalked, Walkable, WalkDone};
 use paper::{Part, Slot};
 
 // Where the rows of a part end, or that they run past the image.
-#[derive(Drop)]
+#[derive(Clone, Copy)]
 enum End {
     At(usize),
     Over,
 }
 
 // How many rows the image has, or that its parts do not fill it.
-#[derive(Drop)]
+#[derive(Clone, Copy)]
 pub enum Walked {
     Rows(usize),
     Bad,
 }
 
 // The slot of the row with a name, or the slot where it would stand.
-#[derive(Drop)]
+#[derive(Clone, Copy)]
 pub enum Found {
     At(Slot),
     Absent(Slot),

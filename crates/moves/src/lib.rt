@@ -12,14 +12,14 @@ ghost use Rattle.moves.specs.Stages.{ListJudged};
 use paper::{EntryRule, Refusal};
 
 // The first entry that fails, if one does.
-#[derive(Drop)]
+#[derive(Clone, Copy)]
 pub enum Bad {
     None,
     At(usize),
 }
 
 // What the list as a whole comes to: a refusal, or all entries pass.
-#[derive(Drop)]
+#[derive(Clone, Copy)]
 pub enum ListStage {
     Stop(Refusal),
     Go,

@@ -22,24 +22,24 @@ pub const PARTS: usize = 64;
 pub const PART_ENTRIES: usize = 65;
 
 // A part number, a slot and an entity number are kept apart: none can be passed where another is wanted.
-#[derive(Drop)]
+#[derive(Clone, Copy)]
 pub struct Part(pub u32);
 
-#[derive(Drop)]
+#[derive(Clone, Copy)]
 pub struct Slot(pub u32);
 
-#[derive(Drop)]
+#[derive(Clone, Copy)]
 pub struct Number(pub u32);
 
 // An entity's value is nothing, a whole number or a finite real.
-#[derive(Drop)]
+#[derive(Clone, Copy)]
 pub enum Value {
     Nothing,
     Whole(u64),
     Real(f64),
 }
 
-#[derive(Drop)]
+#[derive(Clone, Copy)]
 pub struct Point {
     pub x: f64,
     pub y: f64,
@@ -47,7 +47,7 @@ pub struct Point {
 }
 
 // The least and the greatest x, y, z.
-#[derive(Drop)]
+#[derive(Clone, Copy)]
 pub struct Box {
     pub least: Point,
     pub greatest: Point,
@@ -89,7 +89,7 @@ impl Box {
 }
 
 // The rules that a row is judged by, in their order (specs/Sound.antt).
-#[derive(Drop)]
+#[derive(Clone, Copy)]
 pub enum Rule {
     Fields,
     Order,
@@ -116,7 +116,7 @@ impl Rule {
 }
 
 // The rules that an entry of a list is judged by, in their order (specs/Move.antt).
-#[derive(Drop)]
+#[derive(Clone, Copy)]
 pub enum EntryRule {
     Whole,
     Destination,
@@ -138,7 +138,7 @@ impl EntryRule {
 }
 
 // A refusal's number, 1 to 21, and its place: part and slot, or entry and 0, or 0 and 0. The three functions make all refusals.
-#[derive(Drop)]
+#[derive(Clone, Copy)]
 pub struct Refusal {
     pub number: u32,
     pub major: u32,
@@ -191,25 +191,25 @@ impl Refusal {
     }
 }
 
-#[derive(Drop)]
+#[derive(Clone, Copy)]
 pub enum CheckAnswer {
     Refused(Refusal),
     Sound { parts: u32, rows: u32 },
 }
 
-#[derive(Drop)]
+#[derive(Clone, Copy)]
 pub enum MigrateAnswer {
     Refused(Refusal),
     Moved { length: u32, rows: u32, moved: u32 },
 }
 
-#[derive(Drop)]
+#[derive(Clone, Copy)]
 pub enum LookupAnswer {
     Refused(Refusal),
     Found { residence: u64, owner: Part },
 }
 
-#[derive(Drop)]
+#[derive(Clone, Copy)]
 pub enum BoxAnswer {
     Refused(Refusal),
     NoVertex,

@@ -13,7 +13,7 @@ ghost use Rattle.query.specs.Vertices.{box_within, vertices, further};
 use index::Found;
 use paper::{Box, BoxAnswer, CheckAnswer, LookupAnswer, Number, Part, Point, Refusal, Slot};
 // The box around the vertices so far, if there is one.
-#[derive(Drop)]
+#[derive(Clone, Copy)]
 enum Extent {
     Empty,
     Around(Box),

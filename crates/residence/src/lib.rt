@@ -1,5 +1,7 @@
 // Rule 11: an entity that is in several parts bounds another in each of them. It reads which rows are covered; rule 12, the owner, stands in
 // a module of its own.
+#![tactic(auto)]
+
 pub mod covered;
 pub mod owner;
 

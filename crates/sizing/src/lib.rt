@@ -11,7 +11,7 @@ use paper::Refusal;
 use sound::Examined;
 
 // A refusal, or the part count, the entities, and the answer's numbers.
-#[derive(Drop)]
+#[derive(Clone, Copy)]
 pub enum Sizing {
     Refused(Refusal),
     Fits {
@@ -24,7 +24,7 @@ pub enum Sizing {
 }
 
 // A refusal, or the list passes.
-#[derive(Drop)]
+#[derive(Clone, Copy)]
 enum Stage {
     Stop(Refusal),
     Go,

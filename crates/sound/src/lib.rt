@@ -13,7 +13,7 @@ use index::Walked;
 use paper::{CheckAnswer, Part, Refusal, Rule, Slot};
 
 // What a row is tested for: that it keeps a rule, or, for Twins, that the copies which it names agree, which is half of the rule Copies.
-#[derive(Drop)]
+#[derive(Clone, Copy)]
 enum Test {
     Fields,
     Order,
@@ -25,28 +25,28 @@ enum Test {
 }
 
 // The first row that fails a test, if one does.
-#[derive(Drop)]
+#[derive(Clone, Copy)]
 enum Fault {
     None,
     At(Part, Slot),
 }
 
 // What the rules so far say: a refusal, or that every row keeps them.
-#[derive(Drop)]
+#[derive(Clone, Copy)]
 enum Stage {
     Stop(Refusal),
     Go,
 }
 
 // The same, and how many entities are listed.
-#[derive(Drop)]
+#[derive(Clone, Copy)]
 struct Judged {
     stage: Stage,
     entities: usize,
 }
 
 // A refusal, or the part count, the rows and the entities of a sound image.
-#[derive(Drop)]
+#[derive(Clone, Copy)]
 pub enum Examined {
     Refused(Refusal),
     Sound {

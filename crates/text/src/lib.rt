@@ -10,7 +10,7 @@ ghost use Rattle.text.specs.Listed.{Listed};
 use decimal::writing::put_text;
 
 // How many bytes the text has, which stand at the front of the buffer, or that the buffer is too short.
-#[derive(Drop)]
+#[derive(Clone, Copy)]
 pub enum Written {
     Bytes(usize),
     Short,
