@@ -1,0 +1,37 @@
+-- `residence::covered::cover_row`: the slots read so far are marked. Assumes nothing.
+use Prim.Native.Nat.{◌+◌, ◌-◌}
+use native.Mathlib.Omega.{arith}
+use Rattle.residence.proofs.covered.Rows.{RowInv, row-vertex, row_start, row_slot_read, row_slot_there, row_turn, row_end}
+use borrow.Author.Rules.{rules}
+use Rattle.residence.proofs.covered.cover_row.Goals as goal
+
+pub returns-then-dim-eq0 : goal.returns-then-dim-eq0
+returns-then-dim-eq0 c = row-vertex c.requires c.byte_at-dim.ensures.0 c.if-dim-eq0.true
+
+pub loop-i-init : goal.loop-i-init
+loop-i-init c = row_start c.requires c.byte_at-dim.ensures.0
+
+pub word_at-slot-requires : goal.word_at-slot-requires
+word_at-slot-requires c =
+    row_slot_read c.requires c.byte_at-dim.ensures.0 c.loop-i.i c.loop-i-test.true
+
+pub overflow_add-covered : goal.overflow_add-covered
+overflow_add-covered c =
+    let l = row_slot_there c.requires c.byte_at-dim.ensures.0 c.if-dim-eq0.false c.loop-i.i _ c.loop-i-test.true c.word_at-slot.ensures in
+    omega (arith, l, c.loop-i.invariant.marks.same)
+
+pub bounds-covered-first : goal.bounds-covered-first
+bounds-covered-first c =
+    let l = row_slot_there c.requires c.byte_at-dim.ensures.0 c.if-dim-eq0.false c.loop-i.i _ c.loop-i-test.true c.word_at-slot.ensures in
+    omega (arith, l, c.loop-i.invariant.marks.same)
+
+pub loop-i-preserved : goal.loop-i-preserved
+loop-i-preserved c =
+    row_turn c.requires c.byte_at-dim.ensures.0 c.if-dim-eq0.false _ _ _ c.loop-i-test.true c.word_at-slot.ensures c.loop-i.invariant
+
+pub shape_of-covered : goal.shape_of-covered
+shape_of-covered c = c.loop-i.invariant.marks.same
+
+pub returns : goal.returns
+returns c =
+    row_end c.requires c.byte_at-dim.ensures.0 c.if-dim-eq0.false _ _ c.loop-i-test.false c.loop-i.invariant
