@@ -1,4 +1,6 @@
 // The rows of an image that are the lowest copy of their entity, in the order of their names: each entity once where the copies agree.
+#![tactic(auto)]
+
 ghost use Rattle.std.specs.Prelude.{◌+◌, ◌≤◌, ◌<◌, ◌≡◌, cond, [], length, get_or};
 ghost use Rattle.index.specs.Index.{set_in, max_rows};
 ghost use Rattle.entities.specs.LowestCopies.{is_low, Entities};

@@ -1,4 +1,6 @@
 // The closures of the partition objects, marked in lent words: bit q of a row's word says that the row goes to part q.
+#![tactic(auto)]
+
 ghost use Rattle.std.specs.Prelude.{◌+◌, ◌^◌, ◌<◌, ◌≡◌, [], length, get_or, set, replicate};
 ghost use Rattle.std.specs.Int.Bits.{bit_or};
 ghost use Rattle.residence.specs.Marks.{slots_named};

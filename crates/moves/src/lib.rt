@@ -1,4 +1,6 @@
 // The list of a move: entry i is the eight bytes from 8 i. Its entries are read, and judged by the rules of a list.
+#![tactic(auto)]
+
 ghost use Rattle.std.specs.Prelude.{◌+◌, ◌*◌, ◌≤◌, ◌<◌, ◌≡◌, length};
 ghost use Rattle.laws.specs.Lists.{up_to, first_bad};
 ghost use Rattle.paper.specs.Outcome.{at_entry, refusal};

@@ -1,0 +1,6 @@
+-- `writer::entry`. Assumes nothing.
+use borrow.Author.Rules.{rules}
+use Rattle.writer.proofs.entry.Goals as goal
+
+pub returns : goal.returns
+returns c = cc

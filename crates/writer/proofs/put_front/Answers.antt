@@ -1,0 +1,8 @@
+-- `writer::put_front`: four runs in a row. Assumes nothing.
+use Rattle.writer.proofs.Rows.{front-written}
+use borrow.Author.Rules.{rules}
+use Rattle.writer.proofs.put_front.Goals as goal
+
+pub returns : goal.returns
+returns c =
+    front-written _ _ _ _ _ _ _ _ _ _ _ c.put_word.ensures c.put_bytes.ensures c.put_long.ensures c.put_long-2.ensures
