@@ -48,17 +48,17 @@ passed_known S l pass i g = pass i g
 
 -- ---- the rule that is left where a match has ruled one out: the match gives the places of the others among the four
 
-pub is_destination : (rule : EntryRule) → entry_rank rule < entry_rank Known → OneOf (1 ∷ 2 ∷ 3 ∷ []) (tag_of the_type rule) → rule ≡ Destination
-is_destination Whole h t = absurd (⊎_elim (λ e. omega arith) (⊎_elim (λ e. omega arith) (λ e. omega arith)) t)
+pub is_destination : (rule : EntryRule) → entry_rank rule < entry_rank Known → (rule ≡ Whole → ⊥) → rule ≡ Destination
+is_destination Whole h t = absurd (t refl)
 is_destination Destination h t = refl
 is_destination Known h t = absurd (omega arith)
 is_destination Object h t = absurd (omega arith)
 
-pub is_known : (rule : EntryRule) → entry_rank Destination < entry_rank rule → OneOf (0 ∷ 1 ∷ 2 ∷ []) (tag_of the_type rule) → rule ≡ Known
+pub is_known : (rule : EntryRule) → entry_rank Destination < entry_rank rule → (rule ≡ Object → ⊥) → rule ≡ Known
 is_known Whole h t = absurd (omega arith)
 is_known Destination h t = absurd (omega arith)
 is_known Known h t = refl
-is_known Object h t = absurd (⊎_elim (λ e. omega arith) (⊎_elim (λ e. omega arith) (λ e. omega arith)) t)
+is_known Object h t = absurd (t refl)
 
 -- ---- Whole and Destination
 

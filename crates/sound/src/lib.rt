@@ -1,5 +1,7 @@
 // The check of an image: the head and the walk, then the rules in their order, one loop for all of them, which finds the first row, by part
 // and then by slot, that breaks a rule.
+#![tactic(auto)]
+
 ghost use Rattle.std.specs.Prelude.{◌≡◌};
 ghost use Rattle.paper.specs.declared.Rule.TheVariants.{Boundary};
 ghost use Rattle.paper.specs.Sound.{first_fault_of};
