@@ -1,4 +1,6 @@
 // The new residence set of each entity, the union of the marks of its copies, and which entity each row is.
+#![tactic(auto)]
+
 ghost use Rattle.std.specs.Prelude.{◌^◌, ◌<◌, ◌≡◌, get_or, set};
 ghost use Rattle.part_set.specs.Masks.{parts_in};
 ghost use Rattle.plan.specs.Plan.{Masked, Numbered};

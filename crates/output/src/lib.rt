@@ -1,4 +1,6 @@
 // The new image of a migration, written into the output from front to back.
+#![tactic(auto)]
+
 ghost use Rattle.std.specs.Prelude.{◌≤◌, ◌≡◌, ◌++◌, length, drop};
 ghost use Rattle.std.proofs.lemmas.List.Edits.{sets};
 ghost use Rattle.plan.specs.Plan.{new_image, Prepared};

@@ -1,4 +1,6 @@
 // Where the objects go: the part of each object's row after the move, how many objects each part then has, and how many changed their part.
+#![tactic(auto)]
+
 ghost use Rattle.std.specs.Prelude.{◌+◌, ◌≤◌, ◌≡◌, length};
 ghost use Rattle.paper.specs.Move.{all_entries};
 ghost use Rattle.plan.specs.Plan.{moved_count, Destined, Tallied};

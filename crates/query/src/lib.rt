@@ -1,4 +1,6 @@
 // Lookup and box: the residence set and the owner of an entity, and the least and greatest x, y, z of a part's vertices.
+#![tactic(auto)]
+
 ghost use Rattle.std.specs.Prelude.{◌+◌, ◌≤◌, ◌≡◌, [], ◌∷◌, length, T};
 ghost use Rattle.paper.specs.Outcome.{accepted};
 ghost use Rattle.paper.specs.Sound.{body_fitting};

@@ -1,5 +1,7 @@
 // The listing of an image: its text, written into a lent buffer. Each writer puts its bytes from `at` on, as far as the buffer has room for
 // them, and answers where the next one goes on.
+#![tactic(auto)]
+
 pub mod answers;
 pub mod lines;
 

@@ -1,0 +1,12 @@
+-- `places::stay`: the rows of the parts so far have their part. Assumes nothing.
+use Prim.Native.Nat.{◌-◌}
+use native.Mathlib.Omega.{arith}
+use borrow.Author.Rules.{rules}
+use Rattle.places.proofs.OwnParts.{Staying, staying_none, staying_part, staying_room, staying_more, staying_done}
+use Rattle.places.proofs.stay.Given as goal
+
+abbrev pub invariant-loop-p : goal.invariant-loop-p
+invariant-loop-p l = Staying l.starts l.n l.initial.dest l.dest l.p
+
+abbrev pub decreases-loop-p : goal.decreases-loop-p
+decreases-loop-p l = l.n - l.p
