@@ -14,7 +14,7 @@ use Rattle.paper.specs.declared.Point.{Point}
 use Rattle.paper.specs.declared.Box.{Box}
 use Rattle.paper.specs.Image.{Row, no_row}
 use Rattle.paper.specs.Sound.{body_fitting}
-use Rattle.paper.specs.Box.{point_of, grow_all, box_around}
+use Rattle.paper.specs.Box.{point_of, grow, grow_all, box_around}
 use Rattle.query.specs.Vertices.{vertices, further}
 
 -- ---- points in turn
@@ -22,7 +22,7 @@ use Rattle.query.specs.Vertices.{vertices, further}
 grow_all-append : (b : Box) (ps qs : List Point) → grow_all (grow_all b ps) qs ≡ grow_all b (ps ++ qs)
 unfolding grow_all
 grow_all-append b [] qs = refl
-grow_all-append b (p ∷ ps) qs = grow_all-append _ ps qs
+grow_all-append b (p ∷ ps) qs = grow_all-append (grow b p) ps qs
 
 further-append : (o : Option Box) (ps qs : List Point) → further (further o ps) qs ≡ further o (ps ++ qs)
 unfolding further box_around grow_all

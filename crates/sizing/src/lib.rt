@@ -1,4 +1,6 @@
 // Sizing of a migration: the refusals 1 to 18 and every number of the answer, with the tables that the new image is written from.
+#![tactic(auto)]
+
 ghost use Rattle.std.specs.Prelude.{◌≡◌, length};
 ghost use Rattle.paper.specs.Image.{row_total};
 ghost use Rattle.index.specs.Index.{set_in};
