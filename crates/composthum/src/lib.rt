@@ -1,4 +1,6 @@
 // The face: the public functions with C's calling convention, and nothing else. Every number that an answer does not set is 0.
+#![tactic(auto)]
+
 ghost use Rattle.std.specs.Prelude.{◌≡◌};
 ghost use Rattle.paper.specs.Sound.{check_of};
 ghost use Rattle.paper.specs.Lookup.{lookup_of};

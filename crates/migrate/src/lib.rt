@@ -1,5 +1,7 @@
 // Migration: sizing answers the refusals 1 to 18 and every number of the result, the output writes the bytes, so that none is written before
 // the last refusal is past.
+#![tactic(auto)]
+
 ghost use Rattle.paper.specs.Promises.{Migrates};
 ghost use Rattle.sizing.specs.Sizing.{SizesUp};
 ghost use Rattle.migrate.specs.Delivery.{Delivers};
