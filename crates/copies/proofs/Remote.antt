@@ -17,8 +17,7 @@ use Rattle.paper.specs.Mesh.{same_ent, ent_of}
 use Rattle.paper.specs.Sound.{remote_slot_of, twin_agrees}
 use Rattle.index.specs.Index.{row_from, set_in}
 use Rattle.index.proofs.RowFields.{row_mask, row_slot, row-length, row_long_enough}
-use Rattle.copies.specs.Copies.{twins_agree, TwinsPassed}
-use Rattle.paper.specs.Sound.{judged}
+use Rattle.copies.specs.Copies.{twins_agree}
 use Rattle.copies.specs.Copies.{Ready, TwinAsked, is_same_copy, RemoteThere}
 use Rattle.rows.proofs.Laws.{part-rows}
 use Rattle.copies.proofs.Placed.{Stands, stands, fits, own_lt, other_lt}

@@ -3,7 +3,6 @@
 use Rattle.std.specs.Prelude.{ℕ, List, length}
 use Rattle.std.proofs.Math.Option.{Option, none, some}
 use Rattle.paper.specs.declared.Box.{Box}
-use Rattle.paper.specs.declared.Refusal.{Refusal}
 use Rattle.paper.specs.declared.CheckAnswer.{CheckAnswer}
 use Rattle.paper.specs.declared.CheckAnswer.TheVariants as check
 use Rattle.paper.specs.declared.MigrateAnswer.{MigrateAnswer}
@@ -14,7 +13,6 @@ use Rattle.paper.specs.declared.BoxAnswer.{BoxAnswer}
 use Rattle.paper.specs.declared.BoxAnswer.TheVariants as box
 use Rattle.paper.specs.Outcome.{Outcome, refusal, refused, accepted, answered}
 use Rattle.paper.specs.Sound.{Checked, check_of}
-use Rattle.paper.specs.Move
 use Rattle.paper.specs.Move.{Migrated, Sizes, migrate_of, sizes_of, out_after, work_after}
 use Rattle.paper.specs.Lookup.{Found, lookup_of}
 use Rattle.paper.specs.Box.{box_asked}

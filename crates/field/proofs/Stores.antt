@@ -4,7 +4,7 @@ use Prim.Native.Nat.{ℕ, zero, suc, ◌+◌, ◌*◌, ◌/◌, ◌%◌, ◌^◌
 use native.Mathlib.Nat.{add-zero, suc-add, zero-add, div-one}
 use native.Mathlib.Omega.{arith}
 use mathlib.Core.Path.{◌≡◌, refl, sym, ap, ap₂, ◌∙◌}
-use mathlib.Core.List.{List, [], ◌∷◌, ◌++◌, append_assoc}
+use mathlib.Core.List.{List, ◌∷◌, ◌++◌, append_assoc}
 use lib.ListN.{length, set, get_or, take, drop, length-set, length-append, length-take, length-drop, drop_of_length-le}
 use lib.Seq.{sets, sets-eq, drop-cons, get_or-take, get_or-drop, length-take-le, take_at, drop_at}
 use lib.Pow.{shr-shr, mod-mod-pow, field}

@@ -1,13 +1,12 @@
 -- Rule 8 by the keys of the rows. Assumes nothing.
 use Prim.Native.Nat.{ℕ, zero, suc, ◌+◌, ◌-◌, ◌<◌}
 use native.Mathlib.Omega.{arith}
-use mathlib.Core.Path.{◌≡◌, refl, sym}
-use mathlib.Core.Bool.{Bool}
+use mathlib.Core.Path.{◌≡◌, refl}
 use mathlib.Core.List.{List, []}
 use lib.ListN.{length, get_or}
 use borrow.Author.Tests.{ne_eqb}
 use Rattle.paper.specs.Image.{row_at}
-use Rattle.paper.specs.Sound.{name_of_row, ordered}
+use Rattle.paper.specs.Sound.{ordered}
 use Rattle.index.specs.Index.{set_in, Named}
 use Rattle.paper.specs.declared.Rule.TheVariants.{Order}
 use Rattle.paper.specs.Sound.{judged}

@@ -1,5 +1,5 @@
 -- Rule 7 by numbers that are read from the image, and tests with no branch. Assumes nothing.
-use Prim.Native.Nat.{ℕ, zero, suc, ◌+◌, ◌*◌, ◌^◌, ◌≤◌, ◌<◌}
+use Prim.Native.Nat.{ℕ, zero, suc, ◌+◌, ◌^◌, ◌≤◌, ◌<◌}
 use native.Mathlib.Nat.{not-suc-le-zero}
 use native.Mathlib.Omega.{arith}
 use mathlib.Core.Path.{◌≡◌, refl, sym, ap, ap₂, ◌∙◌}
@@ -8,7 +8,7 @@ use mathlib.Core.List.{List, []}
 use lib.ListN.{length, get_or, take, drop}
 use lib.Seq.{drop-drop}
 use lib.Dec.{T, ltb, leb, eqb, leb→le}
-use borrow.Author.Tests.{ne_eqb, le-ltb, leb-true}
+use borrow.Author.Tests.{ne_eqb, le-ltb}
 use Rattle.laws.specs.Lists.{every}
 use Rattle.laws.proofs.Tests.{and_three}
 use Rattle.field.specs.Bytes.{u8_at, u32_at, u64_at, longs, finite}

@@ -3,7 +3,7 @@
 use Rattle.std.specs.Prelude.{ℕ, ◌+◌, ◌≤◌, ◌<◌, ◌≡◌, List, [], length, get_or, drop}
 use Rattle.std.proofs.Math.Option
 use Rattle.field.specs.Bytes.{u8_at}
-use Rattle.paper.specs.Image.{Row, Set, no_row, row_length_of, row_in, walk_parts, row_at, row_total}
+use Rattle.paper.specs.Image.{Row, Set, row_length_of, row_in, walk_parts, row_at, row_total}
 use Rattle.paper.specs.Sound.{name_of_row, max_image}
 
 -- the row whose first byte stands at o

@@ -4,10 +4,7 @@ use native.Mathlib.Numerals.{add-one}
 use native.Mathlib.Omega.{arith}
 use mathlib.Core.Path.{◌≡◌, refl, ap, ◌∙◌, subst}
 use mathlib.Core.Bool.{Bool, false}
-use mathlib.Core.Logic.{⊎_elim}
-use mathlib.Core.List.{List, [], ◌∷◌}
-use denote.Enum.Declared.{tag_of}
-use types.Run.{OneOf}
+use mathlib.Core.List.{List}
 use lib.ListN.{length, get_or}
 use lib.Dec.{T, leb, ltb, eqb, leb→le, ltb→lt, eqb→eq}
 use Rattle.laws.specs.Lists.{flat}
@@ -22,7 +19,6 @@ use Rattle.paper.specs.declared.EntryRule.TheVariants.{Whole, Destination, Known
 use Rattle.demands.specs.Passed.{EntriesPassed, EntriesPassedAhead}
 use Rattle.moves.specs.Catalog.{Lower}
 use Rattle.moves.specs.Entries.{EntryReady, SweepReady}
-use Rattle.paper.specs.contracts.EntryRule.{the_type}
 use Rattle.moves.proofs.Cursor.{stands}
 
 -- ---- what the rules before gave

@@ -8,10 +8,9 @@ use mathlib.Core.List.{List}
 use lib.ListN.{length}
 use Rattle.paper.specs.declared.EntryRule.{EntryRule}
 use Rattle.paper.specs.declared.EntryRule.TheVariants.{Whole, Destination, Known, Object}
-use Rattle.paper.specs.declared.Refusal.{Refusal}
-use Rattle.paper.specs.Outcome.{at_entry, refusal, place_of, refused}
+use Rattle.paper.specs.Outcome.{at_entry, refusal}
 use Rattle.paper.specs.Image.{Set}
-use Rattle.paper.specs.Move.{number_of_entry, entry_rank, size_set}
+use Rattle.paper.specs.Move.{number_of_entry, entry_rank}
 use Rattle.paper.proofs.Ranks.{one_entry_rank}
 use Rattle.demands.specs.Passed.{EntriesPassed, EntriesPassedAhead, ListPassed}
 use Rattle.demands.proofs.Rows.Entries.{first_entry, clear_passes, list_stops}

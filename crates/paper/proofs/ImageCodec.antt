@@ -13,7 +13,7 @@ use Rattle.laws.proofs.Same.{same_eq}
 use Rattle.laws.proofs.Tests.{split3, join3, eq-eqb}
 use Rattle.field.specs.Bytes.{u8_at, u16_at, bytes_of}
 use Rattle.field.proofs.Reading.{bytes_drop}
-use Rattle.paper.specs.Outcome.{accepted, ◌>>◌, must, get}
+use Rattle.paper.specs.Outcome.{accepted, get}
 use Rattle.paper.specs.Image.{Row, Set, no_row, walk_parts, row_bytes, bytes_of_part, image_of}
 use Rattle.paper.specs.Sound.{max_image, marked, parts_counted, decode}
 use Rattle.paper.proofs.Outcomes.{then_inv, must_inv, get_inv, then_ok, must_ok}

@@ -9,7 +9,6 @@ use lib.Dec.{T, eqb, eqb→eq}
 use lib.Ieee.{binary64, of_bits, to_bits}
 use lib.Ieee.Bits.{to_bits-of_bits}
 use borrow.Author.Tests.{eq-eqb, ne_eqb}
-use Rattle.paper.specs.declared.Value.TheVariants as value
 use Rattle.paper.specs.declared.Refusal.{Refusal}
 use Rattle.paper.specs.declared.CheckAnswer.{CheckAnswer}
 use Rattle.paper.specs.declared.CheckAnswer.TheVariants as check

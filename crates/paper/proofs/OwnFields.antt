@@ -5,7 +5,7 @@ use mathlib.Core.List.{[], ◌∷◌, ◌++◌}
 use lib.ListN.{set}
 use Rattle.paper.specs.Move
 use Rattle.paper.proofs.Meshes.{one, ent, image_with, v1, v2, v3, e1, B}
-use Rattle.paper.proofs.OwnMeshes.{minus_zero, largest, infinity, nan, two, valued, vertex, lone, bar, tri, tet, first, second}
+use Rattle.paper.proofs.OwnMeshes.{minus_zero, largest, infinity, nan, valued, vertex, lone, bar, tri, tet, first, second}
 use Rattle.paper.proofs.Table.{Cases, wrong, check}
 
 -- ---- 7: values and coordinates

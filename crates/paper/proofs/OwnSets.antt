@@ -6,7 +6,7 @@ use lib.ListN.{set}
 use Rattle.paper.specs.Move
 use Rattle.paper.specs.Lookup
 use Rattle.paper.proofs.Meshes.{one, ent, image_with, v1, v2, v3, v4, v5, e1, e2, e3, t1}
-use Rattle.paper.proofs.OwnMeshes.{minus_zero, two, valued, vertex, lone, bar, tri, tri_over, e6, tet_over, tet, first, second, twin, star, far}
+use Rattle.paper.proofs.OwnMeshes.{minus_zero, valued, vertex, bar, tri, tri_over, e6, tet_over, tet, first, second, twin, star, far}
 use Rattle.paper.proofs.Table.{Cases, wrong, check, lookup, put}
 
 -- ---- 9: the boundary

@@ -1,6 +1,6 @@
 -- What the judgements read off the tables of an image: the keys of the rows, which rows are covered, and the objects of each part.
 -- Assumes nothing.
-use Rattle.std.specs.Prelude.{ℕ, ◌+◌, ◌-◌, ◌≤◌, ◌<◌, ◌≡◌, Bool, ◌||◌, cond, List, [], length, get_or, eqb, ltb}
+use Rattle.std.specs.Prelude.{ℕ, ◌+◌, ◌≤◌, ◌<◌, ◌≡◌, Bool, cond, List, [], length, get_or}
 use Rattle.laws.specs.Lists.{some?, member}
 use Rattle.paper.specs.Image.{Row}
 use Rattle.paper.specs.Mesh.{slots_of, parts_of, objects_in}

@@ -7,7 +7,7 @@ use mathlib.Core.List.{List}
 use lib.ListN.{length}
 use lib.Dec.{T, leb, le→leb, leb→le, not_T}
 use Rattle.paper.specs.declared.Refusal.{Refusal}
-use Rattle.paper.specs.Outcome.{nowhere, place_of, refused, accepted, must, ◌>>=◌, ◌>>◌}
+use Rattle.paper.specs.Outcome.{nowhere, place_of, refused, accepted, must, ◌>>◌}
 use Rattle.paper.specs.Image.{Set, row_total}
 use Rattle.paper.specs.Sound.{max_image, sound_of}
 use Rattle.paper.specs.Move.{migrated, size_set}

@@ -1,7 +1,7 @@
 -- What the list comes to: an entry at fault, too few words, or neither. Assumes nothing.
 use Prim.Native.Nat.{ℕ, ◌≤◌, ◌<◌}
 use native.Mathlib.Omega.{arith}
-use mathlib.Core.Path.{◌≡◌, sym, ap, ◌∙◌}
+use mathlib.Core.Path.{◌≡◌, sym, ◌∙◌}
 use mathlib.Core.List.{List}
 use Rattle.paper.specs.declared.Refusal.{Refusal}
 use Rattle.paper.specs.Outcome.{nowhere, refusal, place_of, refused}

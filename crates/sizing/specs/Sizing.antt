@@ -1,5 +1,5 @@
 -- What sizing answers: refusals 1 to 18, or all numbers of the answer and the tables that the image is written from. Assumes nothing.
-use Rattle.std.specs.Prelude.{ℕ, ◌≡◌, List, length}
+use Rattle.std.specs.Prelude.{ℕ, ◌≡◌, List}
 use Rattle.paper.specs.Outcome.{Outcome, refused, accepted, ◌>>=◌}
 use Rattle.paper.specs.Sound.{sound_of}
 use Rattle.paper.specs.Move.{Migrated, migrated, size_set, sizes_of}

@@ -27,7 +27,7 @@ use Rattle.sound.specs.declared.Stage.TheVariants.{Stop, Go}
 use Rattle.sound.specs.declared.Judged.{Judged}
 use Rattle.sound.specs.declared.Examined.{Examined}
 use Rattle.sound.specs.declared.Examined.TheVariants.{Refused, Sound}
-use Rattle.sound.specs.Ready.{Tabled, CopiesAhead, HomesAhead, IndexRooms, Rooms}
+use Rattle.sound.specs.Ready.{Tabled, CopiesAhead, HomesAhead, Rooms}
 use Rattle.sound.specs.Stages.{UpTo, AllJudged, SoundSurvey, SoundImage, ImageSays, IndexSays, Examines, Surveys}
 use Rattle.sound.proofs.Behind.{homes_stop, not_go}
 use Rattle.sound.proofs.Stages.{next, stopped, gone, all_through}

@@ -5,7 +5,7 @@ use native.Mathlib.Omega.{arith}
 use mathlib.Core.Path.{◌≡◌, refl, sym, ap, ◌∙◌}
 use mathlib.Core.Bool.{Bool, cond}
 use mathlib.Core.List.{List, [], ◌∷◌, ◌++◌, append-nil}
-use lib.ListN.{length, take, drop, length-append, length-drop, take-append-drop, drop_of_length-le}
+use lib.ListN.{length, take, drop, length-append, take-append-drop, drop_of_length-le}
 use lib.Seq.{sets, set_out, length-take-le}
 use lib.Dec.{T}
 use lib.Pow.{are_bytes}
@@ -16,7 +16,7 @@ use Rattle.paper.specs.Listing.{answer_text, too_long, max_listing, listing_of}
 use Rattle.text.specs.declared.Written.{Written}
 use Rattle.text.specs.declared.Written.TheVariants.{Bytes, Short}
 use Rattle.decimal.specs.Writing.{Wrote}
-use Rattle.text.specs.Listed.{Whole, Cut, Listed}
+use Rattle.text.specs.Listed.{Whole, Listed}
 use Rattle.decimal.proofs.Runs.{wrote_same}
 use Rattle.text.proofs.answers.Sizes.{listing_length}
 

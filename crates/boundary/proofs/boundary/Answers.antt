@@ -1,5 +1,4 @@
 -- `boundary::boundary`: the judgement of the row's dimension. Assumes nothing.
-use borrow.Author.Rules.{rules}
 use native.Mathlib.Omega.{arith}
 use mathlib.Core.Path.{◌∙◌, refl}
 use Rattle.boundary.proofs.Reading.{part_in, row_in, row_inside}

@@ -1,5 +1,4 @@
 -- `boundary::corners_at`: a triangle that passed has the three vertices that its edges leave no choice of. Assumes nothing.
-use borrow.Author.Rules.{rules}
 use mathlib.Core.Path.{refl}
 use mathlib.Core.Logic.{inl, inr}
 use Rattle.boundary.proofs.Laws.{edge_there, corners_read}

@@ -1,5 +1,4 @@
 -- `boundary::each_two_share`: the six pairs, one by one. Assumes nothing.
-use borrow.Author.Rules.{rules}
 use Rattle.boundary.specs.Boundary.{three}
 use Rattle.boundary.proofs.Tests.{shares-four}
 use Rattle.boundary.proofs.each_two_share.Goals as goal

@@ -1,5 +1,4 @@
 -- `boundary::edges_fit`: the ends of each edge are read, and the three pairs judged. Assumes nothing.
-use borrow.Author.Rules.{rules}
 use mathlib.Core.Path.{refl}
 use mathlib.Core.Logic.{inl, inr}
 use mathlib.Core.List.{[]}

@@ -1,5 +1,4 @@
 -- `boundary::face_is`: the slot is in range, and the name there has the dimension. Assumes nothing.
-use borrow.Author.Rules.{rules}
 use Rattle.boundary.proofs.Standing.{face_over, face_read}
 use Rattle.boundary.proofs.face_is.Goals as goal
 

@@ -1,5 +1,4 @@
 -- `boundary::pair_stands`: two slots, each judged, and their order. Assumes nothing.
-use borrow.Author.Rules.{rules}
 use Rattle.boundary.proofs.Standing.{two_keyed}
 use Rattle.boundary.proofs.pair_stands.Goals as goal
 

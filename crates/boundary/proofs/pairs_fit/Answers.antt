@@ -1,5 +1,4 @@
 -- `boundary::pairs_fit`: three pairs can be those of three vertices only, and each of these is hit. Assumes nothing.
-use borrow.Author.Rules.{rules}
 use Rattle.boundary.proofs.Pairs.{pairs-tests}
 use Rattle.boundary.proofs.pairs_fit.Goals as goal
 

@@ -1,5 +1,4 @@
 -- `boundary::quad_stands`: four slots, each judged, and their order. Assumes nothing.
-use borrow.Author.Rules.{rules}
 use Rattle.boundary.proofs.Standing.{four_keyed}
 use Rattle.boundary.proofs.quad_stands.Goals as goal
 

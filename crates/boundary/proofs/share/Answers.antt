@@ -1,5 +1,4 @@
 -- `boundary::share`: one of the three edges is named by the other triangle. Assumes nothing.
-use borrow.Author.Rules.{rules}
 use Rattle.boundary.specs.Boundary.{three}
 use Rattle.boundary.proofs.Tests.{shares-three}
 use Rattle.boundary.proofs.share.Goals as goal

@@ -1,5 +1,4 @@
 -- `boundary::some_pair_is`: one of three is hit. Assumes nothing.
-use borrow.Author.Rules.{rules}
 use mathlib.Core.List.{[], ◌∷◌}
 use Rattle.boundary.specs.Boundary.{two}
 use Rattle.boundary.proofs.Tests.{hit-three}

@@ -1,5 +1,4 @@
 -- `boundary::some_triple_is`: one of four is hit. Assumes nothing.
-use borrow.Author.Rules.{rules}
 use Rattle.boundary.specs.Boundary.{three}
 use Rattle.boundary.proofs.Tests.{hit-four}
 use Rattle.boundary.proofs.some_triple_is.Goals as goal

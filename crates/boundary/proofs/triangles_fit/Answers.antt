@@ -1,5 +1,4 @@
 -- `boundary::triangles_fit`: the vertices of each triangle are read, and the four triples judged. Assumes nothing.
-use borrow.Author.Rules.{rules}
 use mathlib.Core.Path.{refl}
 use mathlib.Core.Logic.{inl, inr}
 use mathlib.Core.List.{[]}

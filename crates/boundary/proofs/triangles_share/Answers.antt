@@ -1,5 +1,4 @@
 -- `boundary::triangles_share`: the edges of each triangle are read, and each two compared. Assumes nothing.
-use borrow.Author.Rules.{rules}
 use mathlib.Core.Path.{refl}
 use mathlib.Core.Logic.{inl, inr}
 use mathlib.Core.List.{[]}

@@ -1,5 +1,4 @@
 -- `boundary::triple_stands`: three slots, each judged, and their order. Assumes nothing.
-use borrow.Author.Rules.{rules}
 use Rattle.boundary.proofs.Standing.{three_keyed}
 use Rattle.boundary.proofs.triple_stands.Goals as goal
 

@@ -1,5 +1,4 @@
 -- `boundary::triples_fit`: four triples can be those of four vertices only, and each of these is hit. Assumes nothing.
-use borrow.Author.Rules.{rules}
 use Rattle.boundary.proofs.Triples.{triples_read}
 use Rattle.boundary.proofs.triples_fit.Goals as goal
 

@@ -1,5 +1,4 @@
 -- `dmp_box` hands back the numbers of the answer. Assumes nothing.
-use borrow.Author.Rules.{rules}
 use Rattle.composthum.proofs.Handed.{boxed}
 use Rattle.composthum.proofs.dmp_box.Goals as goal
 

@@ -1,5 +1,4 @@
 -- `dmp_check` hands back the numbers of the answer. Assumes nothing.
-use borrow.Author.Rules.{rules}
 use Rattle.composthum.proofs.Handed.{checked}
 use Rattle.composthum.proofs.dmp_check.Goals as goal
 

@@ -1,5 +1,4 @@
 -- `dmp_lookup` hands back the numbers of the answer. Assumes nothing.
-use borrow.Author.Rules.{rules}
 use Rattle.composthum.proofs.Handed.{found}
 use Rattle.composthum.proofs.dmp_lookup.Goals as goal
 

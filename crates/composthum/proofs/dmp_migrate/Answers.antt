@@ -1,5 +1,4 @@
 -- `dmp_migrate` hands back the numbers of the answer, and leaves both buffers as `migrate` does. Assumes nothing.
-use borrow.Author.Rules.{rules}
 use Rattle.composthum.proofs.Handed.{migrated}
 use Rattle.composthum.proofs.dmp_migrate.Goals as goal
 

@@ -1,11 +1,7 @@
 -- `copies::holders_listed` meets its contract: what is left of the test from part q on gives the whole test. Assumes nothing.
-use Prim.Native.Nat.{◌-◌}
 use native.Mathlib.Omega.{arith}
-use mathlib.Core.Bool.{not, ◌||◌}
-use Rattle.laws.specs.Lists.{member}
-use Rattle.part_set.specs.Masks.{has}
-use Rattle.copies.specs.Copies.{part_keys, holders_all_listed}
-use Rattle.copies.proofs.Loops.{Left, left_start, left_more, left_fails, left_done}
+use Rattle.copies.specs.Copies.{holders_all_listed}
+use Rattle.copies.proofs.Loops.{left_start, left_more, left_fails, left_done}
 use Rattle.copies.proofs.Holders.{not_listed, listed}
 use Rattle.copies.proofs.holders_listed.Goals as goal
 

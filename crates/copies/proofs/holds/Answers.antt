@@ -1,5 +1,4 @@
 -- `copies::holds` meets its contract: a hit of the search is a key of the part, and where it misses no key is the name. Assumes nothing.
-use borrow.Author.Rules.{rules}
 use Rattle.index.proofs.Answers.{hit, miss}
 use Rattle.copies.proofs.Holders.{hit-held, miss_absent}
 use Rattle.copies.proofs.holds.Goals as goal

@@ -1,5 +1,4 @@
 -- `copies::remote_slot` meets its contract: the place among the other parts is that of the word behind the row. Assumes nothing.
-use borrow.Author.Rules.{rules}
 use native.Mathlib.Omega.{arith}
 use mathlib.Core.Path.{◌∙◌}
 use Rattle.copies.proofs.Remote.{mask_room, place_asked, slot-room, slot_is}

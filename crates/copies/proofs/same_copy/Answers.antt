@@ -1,7 +1,7 @@
 -- `copies::same_copy` meets its contract: the name first, so that the boundaries have one dimension; then the fields and the shape. Assumes nothing.
 use native.Mathlib.Omega.{arith}
 use borrow.Author.Tests.{not-true, not-false}
-use Rattle.copies.proofs.Placed.{Stands, offset_asked, stands, room_48, value_stands}
+use Rattle.copies.proofs.Placed.{offset_asked, stands, room_48, value_stands}
 use Rattle.copies.proofs.Shapes.{shape_there, other_name, other_fields, dim_here, dim_there, copy_shapes}
 use Rattle.copies.proofs.same_copy.Goals as goal
 

@@ -1,12 +1,8 @@
 -- `copies::same_faces` meets its contract: what is left of the test from slot i on gives the whole test. Assumes nothing.
-use borrow.Author.Rules.{rules}
-use Prim.Native.Nat.{◌+◌, ◌-◌, ◌<◌}
-use lib.ListN.{length}
-use native.Mathlib.Omega.{arith}
+use Prim.Native.Nat.{◌-◌}
 use lib.Dec.{eqb}
-use Rattle.copies.specs.Copies.{face_key, faces_agree}
-use Rattle.copies.proofs.Compare.{faces_match, faces_differ}
-use Rattle.copies.proofs.Loops.{Left, left_start, left_more, left_fails, left_done}
+use Rattle.copies.specs.Copies.{face_key}
+use Rattle.copies.proofs.Loops.{Left}
 use Rattle.copies.proofs.same_faces.Given as goal
 
 abbrev pub invariant-loop-i : goal.invariant-loop-i

@@ -1,5 +1,4 @@
 -- `copies::same_fields` meets its contract: each number that is read is a field of its row. Assumes nothing.
-use borrow.Author.Rules.{rules}
 use Rattle.copies.proofs.Compare.{value_read, fields_compared}
 use Rattle.copies.proofs.same_fields.Goals as goal
 

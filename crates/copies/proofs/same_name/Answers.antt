@@ -1,5 +1,4 @@
 -- `copies::same_name` meets its contract: numbers of 32 bits and dimensions are equal where the names are. Assumes nothing.
-use borrow.Author.Rules.{rules}
 use native.Mathlib.Omega.{arith}
 use Rattle.copies.proofs.Compare.{name_read}
 use Rattle.copies.proofs.same_name.Goals as goal

@@ -1,5 +1,4 @@
 -- `copies::same_point` meets its contract: the three numbers that are read are the coordinates. Assumes nothing.
-use borrow.Author.Rules.{rules}
 use Rattle.copies.proofs.Compare.{points_compared}
 use Rattle.copies.proofs.same_point.Goals as goal
 

@@ -1,5 +1,4 @@
 -- `copies::same_shape` meets its contract: a vertex by its coordinates, any other row by its boundary. Assumes nothing.
-use borrow.Author.Rules.{rules}
 use native.Mathlib.Omega.{arith}
 use mathlib.Core.Path.{◌∙◌, sym}
 use Rattle.copies.proofs.Shapes.{shapes_points, shapes-faces}

@@ -2,9 +2,7 @@
 use native.Mathlib.Omega.{arith}
 use mathlib.Core.Path.{◌∙◌, sym}
 use borrow.Author.Tests.{not-true, not-false}
-use Rattle.paper.specs.Sound.{twin_agrees}
-use Rattle.index.specs.Index.{set_in}
-use Rattle.copies.proofs.Loops.{Walks, walks_start, walks_in, walks_more, walks_fails, walks_done}
+use Rattle.copies.proofs.Loops.{walks_start, walks_in, walks_more, walks_fails, walks_done}
 use Rattle.copies.proofs.Placed.{offset_asked, stands, room_48}
 use Rattle.copies.proofs.Remote.{own_asked, twin_asked, twins_judged}
 use Rattle.copies.proofs.twins.Goals as goal

@@ -1,6 +1,6 @@
 -- Parts that fit, written as rows and read back.
 -- Assumes nothing.
-use Prim.Native.Nat.{ℕ, zero, suc, ◌-◌, ◌^◌, ◌<◌}
+use Prim.Native.Nat.{ℕ, zero, suc, ◌^◌, ◌<◌}
 use mathlib.Core.Path.{◌≡◌, refl, sym, ap, ap₂, ◌∙◌, subst}
 use mathlib.Core.Bool.{◌&&◌}
 use mathlib.Core.Logic.{◌⊎◌, inl, inr}

@@ -1,7 +1,7 @@
 -- Exactly when a migration is accepted: refusals 13 to 16 judge the list by the part count and the mesh alone, 17 to 19 the buffers.
 -- Assumes nothing.
 use Prim.Native.Nat.{ℕ, ◌≤◌, ◌<◌}
-use mathlib.Core.Path.{◌≡◌, sym, ap, ◌∙◌, subst}
+use mathlib.Core.Path.{◌≡◌, sym, ◌∙◌, subst}
 use mathlib.Core.List.{List}
 use lib.ListN.{length}
 use lib.Dec.{T, ltb, leb, leb→le, le→leb}

@@ -9,7 +9,7 @@ use lib.Dec.{leb}
 use Rattle.laws.specs.Lists.{up_to, first_bad}
 use Rattle.laws.proofs.FirstBad.{none_bad, all_none}
 use Rattle.paper.specs.declared.EntryRule.{EntryRule}
-use Rattle.paper.specs.Outcome.{Outcome, at_entry, refused, accepted, ◌>>◌, must, unless, in_turn}
+use Rattle.paper.specs.Outcome.{Outcome, at_entry, refused, accepted, ◌>>◌, must, unless}
 use Rattle.paper.specs.Image.{Set, row_total}
 use Rattle.paper.specs.Sound.{max_image}
 use Rattle.paper.specs.Move.{all_entries, entry_judged, entry_rules, number_of_entry, entries_must, Migrated, migrated, size_set}

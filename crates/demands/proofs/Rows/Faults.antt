@@ -11,9 +11,9 @@ use lib.ListN.{length, get_or}
 use lib.Dec.{T}
 use Rattle.laws.specs.Lists.{up_to, first_bad}
 use Rattle.paper.specs.declared.Rule.{Rule}
-use Rattle.paper.specs.Outcome.{Outcome, Place, at_row, refused, accepted, ◌>>◌, unless, in_turn}
+use Rattle.paper.specs.Outcome.{Outcome, Place, at_row, refused, accepted, ◌>>◌, unless}
 use Rattle.paper.specs.Image.{Set}
-use Rattle.paper.specs.Sound.{judged, rules, number_of, rank_of, first_fault_of, rows_must, rules_of}
+use Rattle.paper.specs.Sound.{judged, rules, number_of, first_fault_of, rows_must, rules_of}
 use Rattle.paper.proofs.Outcomes.{not_refused, accepted_inj, then_inv, then_ok, leads_in, turn_ok, turn_inv, turn_stops}
 use Rattle.paper.proofs.Ranks.{ranked}
 use Rattle.demands.specs.Passed.{Passed, PassedAhead, AllPassed}

@@ -1,5 +1,4 @@
 -- `entities::entities`: what is gathered, merged. Assumes nothing.
-use borrow.Author.Rules.{rules}
 use mathlib.Core.Path.{refl}
 use native.Mathlib.Omega.{arith}
 use Rattle.entities.proofs.Members.{gathered_runs, merged_names, entities_listed}

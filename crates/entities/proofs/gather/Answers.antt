@@ -1,8 +1,6 @@
 -- `entities::gather`: the lowest copies of the first p parts are there (`PartsFilled`). Assumes nothing.
-use Prim.Native.Nat.{◌-◌}
-use native.Mathlib.Omega.{arith}
 use lib.ListN.{length-set}
-use Rattle.entities.proofs.Gatherings.{PartsFilled, filled_none, filled_room, filled_more, filled_done, readable_all}
+use Rattle.entities.proofs.Gatherings.{filled_none, filled_room, filled_more, filled_done, readable_all}
 use Rattle.entities.proofs.gather.Goals as goal
 
 pub loop-p-init : goal.loop-p-init

@@ -1,12 +1,7 @@
 -- `entities::gather_part`: what stands before `to` and what is to come are the whole (`Going`). Assumes nothing.
-use Prim.Native.Nat.{◌-◌, ◌<◌}
-use native.Mathlib.Omega.{arith}
-use mathlib.Core.List.{[]}
-use lib.ListN.{length, get_or}
+use Prim.Native.Nat.{◌-◌}
 use Rattle.index.specs.Index.{set_in}
-use Rattle.rows.proofs.Laws.{part-rows}
-use Rattle.entities.proofs.Own.{row_listed}
-use Rattle.entities.proofs.Parts.{Going, going_none, going_more, going_done, low-one}
+use Rattle.entities.proofs.Parts.{Going}
 use Rattle.entities.proofs.gather_part.Given as goal
 
 abbrev pub invariant-loop-s : goal.invariant-loop-s

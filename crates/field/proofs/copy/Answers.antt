@@ -1,8 +1,6 @@
 -- `field::copy`: what is left to store gives what was to be stored. Assumes nothing.
-use Prim.Native.Nat.{◌-◌}
 use native.Mathlib.Omega.{arith}
-use lib.ListN.{take, drop}
-use Rattle.field.proofs.Stores.{Storing, store_none, store_more, store_done, length_run, get_or_run}
+use Rattle.field.proofs.Stores.{store_none, store_more, store_done, length_run, get_or_run}
 use Rattle.field.proofs.copy.Goals as goal
 
 pub loop-i-init : goal.loop-i-init

@@ -1,8 +1,7 @@
 -- `field::copy`: what is left to store gives what was to be stored. Assumes nothing.
 use Prim.Native.Nat.{◌-◌}
-use native.Mathlib.Omega.{arith}
 use lib.ListN.{take, drop}
-use Rattle.field.proofs.Stores.{Storing, store_none, store_more, store_done, length_run, get_or_run}
+use Rattle.field.proofs.Stores.{Storing}
 use Rattle.field.proofs.copy.Given as goal
 
 abbrev pub invariant-loop-i : goal.invariant-loop-i

@@ -1,5 +1,4 @@
 -- `field::put_bytes`: four stores in a row. Assumes nothing.
-use borrow.Author.Rules.{rules}
 use native.Mathlib.Omega.{arith}
 use native.Mathlib.Numerals.{towards_suc}
 use lib.ListN.{length-set}

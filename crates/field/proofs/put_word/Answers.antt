@@ -1,5 +1,4 @@
 -- `field::put_word`: its four bytes. Assumes nothing.
-use borrow.Author.Rules.{rules}
 use Rattle.field.specs.Bytes.{bytes_of}
 use Rattle.field.proofs.put_word.Goals as goal
 

@@ -1,8 +1,8 @@
 -- `field::put_zeros`: what is left to store gives what was to be stored. Assumes nothing.
-use Prim.Native.Nat.{ℕ, ◌-◌}
+use Prim.Native.Nat.{ℕ}
 use native.Mathlib.Omega.{arith}
-use lib.ListN.{replicate, length-replicate, get_or-replicate}
-use Rattle.field.proofs.Stores.{Storing, store_none, store_more, store_done}
+use lib.ListN.{length-replicate, get_or-replicate}
+use Rattle.field.proofs.Stores.{store_none, store_more, store_done}
 use Rattle.field.proofs.put_zeros.Goals as goal
 
 pub loop-i-init : goal.loop-i-init

@@ -1,8 +1,7 @@
 -- `field::put_zeros`: what is left to store gives what was to be stored. Assumes nothing.
-use Prim.Native.Nat.{ℕ, ◌-◌}
-use native.Mathlib.Omega.{arith}
-use lib.ListN.{replicate, length-replicate, get_or-replicate}
-use Rattle.field.proofs.Stores.{Storing, store_none, store_more, store_done}
+use Prim.Native.Nat.{◌-◌}
+use lib.ListN.{replicate}
+use Rattle.field.proofs.Stores.{Storing}
 use Rattle.field.proofs.put_zeros.Given as goal
 
 abbrev pub invariant-loop-i : goal.invariant-loop-i

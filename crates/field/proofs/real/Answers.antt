@@ -1,5 +1,4 @@
 -- `field::real`: finite bits are no NaN's. Assumes nothing.
-use borrow.Author.Rules.{rules}
 use Rattle.field.proofs.Finite.{finite_no_nan}
 use Rattle.field.proofs.real.Goals as goal
 

@@ -1,5 +1,4 @@
 -- `fields::body_fits`: a vertex by its coordinates, any other by what stands behind its slots. Assumes nothing.
-use borrow.Author.Rules.{rules}
 use Rattle.fields.proofs.body_fits.Goals as goal
 
 pub returns-then-dim-eq0 : goal.returns-then-dim-eq0

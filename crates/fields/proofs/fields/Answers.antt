@@ -1,5 +1,4 @@
 -- `fields::fields`: the eight tests of the definition. Assumes nothing.
-use borrow.Author.Rules.{rules}
 use Rattle.fields.proofs.Laws.{fields_read}
 use Rattle.fields.proofs.fields.Goals as goal
 

@@ -1,5 +1,4 @@
 -- `fields::order`: the first row passes, any other by the name before it. Assumes nothing.
-use borrow.Author.Rules.{rules}
 use borrow.Author.Tests.{eq-eqb, ne_eqb}
 use Rattle.fields.specs.Order.{key_ascends}
 use Rattle.fields.proofs.order.Goals as goal

@@ -1,5 +1,4 @@
 -- `fields::point_fits`: three finite numbers. Assumes nothing.
-use borrow.Author.Rules.{rules}
 use Rattle.fields.proofs.Laws.{point_tests}
 use Rattle.fields.proofs.point_fits.Goals as goal
 

@@ -1,5 +1,4 @@
 -- `fields::rest_is_zero`: the words behind the slots are zero exactly where their bytes are. Assumes nothing.
-use borrow.Author.Rules.{rules}
 use Rattle.fields.proofs.Laws.{zero_tests}
 use Rattle.fields.proofs.rest_is_zero.Goals as goal
 

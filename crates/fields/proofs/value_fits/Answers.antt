@@ -1,5 +1,4 @@
 -- `fields::value_fits`: by kind. Assumes nothing.
-use borrow.Author.Rules.{rules}
 use Rattle.fields.proofs.Laws.{value_tests}
 use Rattle.fields.proofs.value_fits.Goals as goal
 

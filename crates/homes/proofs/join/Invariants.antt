@@ -1,11 +1,6 @@
 -- `homes::join`: the entities so far have their sets, and their rows their numbers (`Homed`). Assumes nothing.
 use Prim.Native.Nat.{◌-◌}
-use native.Mathlib.Omega.{arith}
-use lib.Dec.{T}
-use lib.Pow.{are_bytes}
-use borrow.Author.Rules.{rules}
-use Rattle.field.proofs.Reading.{bytes_all}
-use Rattle.homes.proofs.EachEntity.{Homed, homed_none, homed_done, lowest_listed, one-there, homed_more}
+use Rattle.homes.proofs.EachEntity.{Homed}
 use Rattle.homes.proofs.join.Given as goal
 
 abbrev pub invariant-loop-i : goal.invariant-loop-i

@@ -2,10 +2,9 @@
 use Prim.Native.Nat.{◌+◌}
 use native.Mathlib.Omega.{arith}
 use mathlib.Core.Path.{refl}
-use borrow.Author.Rules.{rules}
 use lib.ListN.{get_or}
 use Rattle.field.specs.Bytes.{u32_at}
-use Rattle.homes.proofs.Walking.{Turn, Walking, walking_none, walking-turn, walking_more, walking_done}
+use Rattle.homes.proofs.Walking.{Turn, walking_none, walking-turn, walking_more, walking_done}
 use Rattle.homes.proofs.join_copies.Goals as goal
 
 pub loop-left-init : goal.loop-left-init

@@ -1,5 +1,4 @@
 -- `homes::join_one`: the lowest row, then its copies. Assumes nothing.
-use borrow.Author.Rules.{rules}
 use Rattle.homes.specs.CopyRows.{other_rows}
 use Rattle.homes.proofs.Walking.{others_there, one-joined}
 use Rattle.homes.proofs.Unions.{length-one}

@@ -1,5 +1,4 @@
 -- `index::find`: the slot of a name in a part is the lower bound's, and its key is compared once. Assumes nothing.
-use borrow.Author.Rules.{rules}
 use Rattle.index.specs.Find.{Sought}
 use Rattle.index.proofs.Halves.{sorted_at, found, not_found, at_end}
 use Rattle.index.proofs.find.Goals as goal

@@ -1,5 +1,4 @@
 -- `index::has_count`: the bytes at 5 to 7. Assumes nothing.
-use borrow.Author.Rules.{rules}
 use Rattle.paper.specs.Sound.{parts_counted}
 use Rattle.index.proofs.has_count.Goals as goal
 

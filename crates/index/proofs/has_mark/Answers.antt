@@ -1,6 +1,5 @@
 -- `index::has_mark`: the first three bytes. Assumes nothing.
 use native.Mathlib.Omega.{arith}
-use borrow.Author.Rules.{rules}
 use Rattle.index.proofs.HeadLaws.{mark_bytes}
 use Rattle.index.proofs.has_mark.Goals as goal
 

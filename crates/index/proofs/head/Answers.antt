@@ -2,7 +2,6 @@
 use mathlib.Core.Path.{sym, ◌∙◌}
 use native.Mathlib.Omega.{arith}
 use borrow.Author.Tests.{not-true, not-false}
-use borrow.Author.Rules.{rules}
 use Rattle.index.proofs.HeadLaws.{refuse_1, refuse_2, refuse-3, refuse-4, refuse-5, head-passes}
 use Rattle.index.proofs.head.Goals as goal
 

@@ -1,7 +1,6 @@
 -- `index::lower`: a search in halves. The invariant: all before lo is below the name, and all from hi on is not. Assumes nothing.
 use Prim.Native.Nat.{◌-◌}
-use native.Mathlib.Omega.{arith}
-use Rattle.index.proofs.Halves.{Bracket, all, upper_half, lower_half, met}
+use Rattle.index.proofs.Halves.{Bracket}
 use Rattle.index.proofs.lower.Given as goal
 
 abbrev pub invariant-loop-lo : goal.invariant-loop-lo

@@ -1,5 +1,4 @@
 -- `index::name_at`: the name of the row at an offset. Assumes nothing.
-use borrow.Author.Rules.{rules}
 use Rattle.index.proofs.RowTurn.{name_is}
 use Rattle.index.proofs.name_at.Goals as goal
 

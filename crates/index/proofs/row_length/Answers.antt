@@ -1,7 +1,6 @@
 -- `index::row_length`: 48 bytes, and 4 for each part but one. Assumes nothing.
 use native.Mathlib.Omega.{arith}
 use lib.Dec.{lit≤}
-use borrow.Author.Rules.{rules}
 use Rattle.index.proofs.RowTurn.{short_row, long_row}
 use Rattle.index.proofs.row_length.Goals as goal
 

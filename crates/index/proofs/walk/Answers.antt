@@ -1,11 +1,9 @@
 -- `index::walk`: the parts, one a turn. The invariant: what is left to do from here gives what was to be done from the start. Assumes nothing.
 use mathlib.Core.Path.{refl, sym, ◌∙◌}
-use Prim.Native.Nat.{◌-◌}
 use native.Mathlib.Omega.{arith}
 use lib.ListN.{length-set}
-use borrow.Author.Rules.{rules}
 use Rattle.index.proofs.HeadLaws.{headed}
-use Rattle.index.proofs.PartTurn.{PartsInv, fixed_of, parts_start, parts_step, parts_cut, parts-over, parts_unfilled, parts_done, ended_over}
+use Rattle.index.proofs.PartTurn.{fixed_of, parts_start, parts_step, parts_cut, parts-over, parts_unfilled, parts_done, ended_over}
 use Rattle.index.proofs.walk.Goals as goal
 
 pub byte_at-n-requires : goal.byte_at-n-requires

@@ -2,7 +2,7 @@
 use mathlib.Core.Path.{ap, ◌∙◌}
 use native.Mathlib.Omega.{arith}
 use Rattle.paper.specs.Image.{row_length_of}
-use Rattle.index.proofs.RowTurn.{RowsInv, rows_start, rows_step, rows_cut, rows_past, rows_done}
+use Rattle.index.proofs.RowTurn.{rows_start, rows_step, rows_cut, rows_past, rows_done}
 use Rattle.index.proofs.walk_rows.Goals as goal
 
 pub loop-left-init : goal.loop-left-init

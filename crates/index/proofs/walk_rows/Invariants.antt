@@ -1,8 +1,5 @@
 -- `index::walk_rows`: the rows of a part, one a turn. The invariant: what is left to do from here gives what was to be done from the start. Assumes nothing.
-use mathlib.Core.Path.{ap, ◌∙◌}
-use native.Mathlib.Omega.{arith}
-use Rattle.paper.specs.Image.{row_length_of}
-use Rattle.index.proofs.RowTurn.{RowsInv, rows_start, rows_step, rows_cut, rows_past, rows_done}
+use Rattle.index.proofs.RowTurn.{RowsInv}
 use Rattle.index.proofs.walk_rows.Given as goal
 
 abbrev pub invariant-loop-left : goal.invariant-loop-left

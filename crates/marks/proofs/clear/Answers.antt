@@ -1,9 +1,6 @@
 -- `marks::clear`: the words so far are zero. Assumes nothing.
-use borrow.Author.Rules.{rules}
-use Prim.Native.Nat.{◌-◌}
 use native.Mathlib.Omega.{arith}
-use lib.ListN.{length}
-use Rattle.marks.proofs.Zeros.{Filling, fill_start, fill_turn, fill_done}
+use Rattle.marks.proofs.Zeros.{fill_start, fill_turn, fill_done}
 use Rattle.marks.proofs.clear.Goals as goal
 
 pub loop-i-init : goal.loop-i-init

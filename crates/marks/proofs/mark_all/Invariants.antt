@@ -1,7 +1,6 @@
 -- `marks::mark_all`: the parts so far are marked, and no word behind them. Assumes nothing.
 use Prim.Native.Nat.{◌-◌}
-use native.Mathlib.Omega.{arith}
-use Rattle.marks.proofs.Parts.{AllInv, placed_again, all_start, all_closed, all_turn, all_end}
+use Rattle.marks.proofs.Parts.{AllInv}
 use Rattle.marks.proofs.mark_all.Given as goal
 
 abbrev pub invariant-loop-p : goal.invariant-loop-p

@@ -1,6 +1,5 @@
 -- `marks::mark_object`: a covered row marks nothing, an object its closure. Assumes nothing.
 use native.Mathlib.Omega.{arith}
-use borrow.Author.Rules.{rules}
 use Rattle.marks.proofs.Rows.{known_asked, known_read}
 use Rattle.marks.proofs.Objects.{object_known, covered_there, dest_there, object_covered, object-markable, object-marked}
 use Rattle.marks.proofs.mark_object.Goals as goal

@@ -1,7 +1,5 @@
 -- `marks::mark_part`: the closures of the objects so far are marked. Assumes nothing.
-use Prim.Native.Nat.{◌-◌}
-use native.Mathlib.Omega.{arith}
-use Rattle.marks.proofs.Parts.{PartInv, placed_again, part_asked, part_start, part-here, part_turn, part_end}
+use Rattle.marks.proofs.Parts.{placed_again, part_asked, part_start, part-here, part_turn, part_end}
 use Rattle.marks.proofs.mark_part.Goals as goal
 
 pub rows_in-count-requires : goal.rows_in-count-requires

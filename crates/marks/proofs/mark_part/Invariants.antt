@@ -1,7 +1,6 @@
 -- `marks::mark_part`: the closures of the objects so far are marked. Assumes nothing.
 use Prim.Native.Nat.{◌-◌}
-use native.Mathlib.Omega.{arith}
-use Rattle.marks.proofs.Parts.{PartInv, placed_again, part_asked, part_start, part-here, part_turn, part_end}
+use Rattle.marks.proofs.Parts.{PartInv}
 use Rattle.marks.proofs.mark_part.Given as goal
 
 abbrev pub invariant-loop-s : goal.invariant-loop-s

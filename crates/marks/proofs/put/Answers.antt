@@ -1,5 +1,4 @@
 -- `marks::put`. Assumes nothing.
-use borrow.Author.Rules.{rules}
 use Rattle.marks.proofs.put.Goals as goal
 
 pub returns : goal.returns

@@ -1,5 +1,4 @@
 -- `migrate::deliver`: refused by sizing, or where the output is too short, or written. Assumes nothing.
-use borrow.Author.Rules.{rules}
 use native.Mathlib.Omega.{arith}
 use Rattle.sizing.proofs.Amounts.{bytes_is, bytes_fit, rows_fit}
 use Rattle.migrate.proofs.Delivered.{size_stops, short_output, delivered}

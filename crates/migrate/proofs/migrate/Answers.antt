@@ -1,5 +1,4 @@
 -- `migrate::migrate`: sizing, then the output; the working buffer is cleared before and after sizing. Assumes nothing.
-use borrow.Author.Rules.{rules}
 use Prim.Native.Nat.{ℕ}
 use mathlib.Core.Path.{ap, ◌∙◌}
 use mathlib.Core.List.{List}

@@ -1,5 +1,4 @@
 -- `moves::entry_fits`: an entry that is cut short fails at once, and of a whole one each field is read. Assumes nothing.
-use borrow.Author.Rules.{rules}
 use Rattle.moves.proofs.Whole.{cut_short, whole_fits}
 use Rattle.moves.proofs.entry_fits.Goals as goal
 

@@ -1,11 +1,6 @@
 -- `moves::first_entry`: the invariant: what is left of the entries gives the answer. Assumes nothing.
-use Prim.Native.Nat.{◌-◌}
 use native.Mathlib.Omega.{arith}
-use borrow.Author.Rules.{rules}
-use Rattle.paper.specs.Move.{all_entries}
-use Rattle.index.specs.Index.{set_in}
-use Rattle.paper.specs.Move.{entry_judged}
-use Rattle.moves.proofs.Loops.{AtEntry, start, skip, hit, over}
+use Rattle.moves.proofs.Loops.{start, skip, hit, over}
 use Rattle.moves.proofs.first_entry.Goals as goal
 
 pub loop-i-init : goal.loop-i-init

@@ -1,11 +1,9 @@
 -- `moves::first_entry`: the invariant: what is left of the entries gives the answer. Assumes nothing.
 use Prim.Native.Nat.{◌-◌}
-use native.Mathlib.Omega.{arith}
-use borrow.Author.Rules.{rules}
 use Rattle.paper.specs.Move.{all_entries}
 use Rattle.index.specs.Index.{set_in}
 use Rattle.paper.specs.Move.{entry_judged}
-use Rattle.moves.proofs.Loops.{AtEntry, start, skip, hit, over}
+use Rattle.moves.proofs.Loops.{AtEntry}
 use Rattle.moves.proofs.first_entry.Given as goal
 
 abbrev pub invariant-loop-i : goal.invariant-loop-i

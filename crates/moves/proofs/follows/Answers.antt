@@ -1,5 +1,4 @@
 -- `moves::follows`: the first entry follows none, and any other is compared with the one before it. Assumes nothing.
-use borrow.Author.Rules.{rules}
 use Rattle.moves.proofs.Whole.{first-ascends, later_ascends}
 use Rattle.moves.proofs.follows.Goals as goal
 

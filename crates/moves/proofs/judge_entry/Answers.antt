@@ -1,7 +1,6 @@
 -- `moves::judge_entry`: each rule is judged by its own function, with what the rules before it gave. Assumes nothing.
 use native.Mathlib.Omega.{arith}
 use mathlib.Core.Path.{ap}
-use borrow.Author.Rules.{rules}
 use Rattle.paper.specs.declared.EntryRule.TheVariants.{Whole}
 use Rattle.paper.specs.Move.{entry_rank}
 use Rattle.moves.proofs.Judging.{is_destination, passed_whole, by_whole, by_destination}

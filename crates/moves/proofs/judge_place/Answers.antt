@@ -1,6 +1,5 @@
 -- `moves::judge_place`: a name that is held stands at its lower bound, and its row is an object where it is not covered. Assumes nothing.
 use native.Mathlib.Omega.{arith}
-use borrow.Author.Rules.{rules}
 use Rattle.paper.specs.declared.EntryRule.TheVariants.{Whole}
 use Rattle.moves.proofs.Judging.{is_known, passed_whole, beyond, row_there, by_known, by_object}
 use Rattle.moves.proofs.judge_place.Goals as goal

@@ -1,6 +1,5 @@
 -- `moves::list_rules`: each answer stops the list, or makes it ready for the next rule; the points are bound from the last call back to the
 -- start. Assumes nothing.
-use borrow.Author.Rules.{rules}
 use Rattle.paper.specs.declared.EntryRule.TheVariants.{Whole, Destination, Known, Object}
 use Rattle.moves.specs.Stages.{ListJudged}
 use Rattle.moves.proofs.Stages.{stops, all_passed, first_ready, second_ready, third_ready, last_ready}

@@ -1,9 +1,6 @@
 -- `moves::seek`: a name is sought upwards. The invariant: all before the cursor is below the name. Assumes nothing.
 use Prim.Native.Nat.{◌-◌}
-use native.Mathlib.Omega.{arith}
-use borrow.Author.Rules.{rules}
 use Rattle.moves.specs.Catalog.{Behind}
-use Rattle.moves.proofs.Cursor.{further, arrived, past_all}
 use Rattle.moves.proofs.seek.Given as goal
 
 abbrev pub invariant-loop-j : goal.invariant-loop-j

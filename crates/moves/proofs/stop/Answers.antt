@@ -1,8 +1,6 @@
 -- `moves::stop`: the rule's number at the entry. Assumes nothing.
 use mathlib.Core.Path.{ap, ◌∙◌}
-use borrow.Author.Rules.{rules}
 use Prim.Native.Nat.{ℕ}
-use Rattle.paper.specs.declared.Refusal.{Refusal}
 use Rattle.paper.specs.Outcome.{at_entry, refusal}
 use Rattle.moves.specs.declared.ListStage.TheVariants.{Stop}
 use Rattle.moves.proofs.stop.Goals as goal

@@ -1,12 +1,8 @@
 -- `moves::sweep`: the invariant: what is left of the entries gives the answer, and the cursor has passed no name that is left. Assumes nothing.
-use Prim.Native.Nat.{◌-◌}
 use native.Mathlib.Omega.{arith}
-use borrow.Author.Rules.{rules}
-use Rattle.index.specs.Index.{set_in}
 use Rattle.paper.specs.declared.EntryRule.TheVariants.{Whole}
-use Rattle.paper.specs.Move.{entry_judged}
 use Rattle.moves.proofs.Loops.{skip, hit, over}
-use Rattle.moves.proofs.Cursor.{Swept, begin, next}
+use Rattle.moves.proofs.Cursor.{begin, next}
 use Rattle.moves.proofs.Judging.{passed_whole, passed_next}
 use Rattle.moves.proofs.sweep.Goals as goal
 

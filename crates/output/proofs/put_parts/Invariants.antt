@@ -1,9 +1,7 @@
 -- `output::put_parts`: what stands behind the head grows by a part. Assumes nothing.
 use Prim.Native.Nat.{◌-◌}
-use native.Mathlib.Omega.{arith}
 use Rattle.output.specs.Parts.{part_by}
-use Rattle.output.proofs.Growing.{Growing, growing_none, growing_same, growing_room, growing_more, growing_done}
-use borrow.Author.Rules.{rules}
+use Rattle.output.proofs.Growing.{Growing}
 use Rattle.output.proofs.put_parts.Given as goal
 
 abbrev pub invariant-loop-q : goal.invariant-loop-q

@@ -4,7 +4,6 @@ use Rattle.field.proofs.Reading.{bytes_all}
 use Rattle.output.proofs.Masks.{head_there}
 use Rattle.output.proofs.Stages.{slots_wanted, starts_wanted, lists-wanted, all-filled}
 use Rattle.output.proofs.Image.{parts_ready, image-put}
-use borrow.Author.Rules.{rules}
 use Rattle.output.proofs.write.Goals as goal
 
 pub fill_slots-requires : goal.fill_slots-requires

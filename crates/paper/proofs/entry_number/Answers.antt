@@ -1,5 +1,4 @@
 -- `paper::entry_number`: the number itself where it has 32 bits, else the last that has. Assumes nothing.
-use borrow.Author.Rules.{rules}
 use Rattle.paper.proofs.Entries.{low-number, high_number}
 use Rattle.paper.proofs.entry_number.Goals as goal
 

@@ -1,5 +1,4 @@
 -- `part_set::fits`: nothing is left past n bits. Assumes nothing.
-use borrow.Author.Rules.{rules}
 use mathlib.Core.Path.{sym}
 use Prim.Native.Nat.{◌^◌}
 use borrow.Author.Tests.{lt-ltb}

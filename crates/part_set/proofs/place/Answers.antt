@@ -1,5 +1,4 @@
 -- `part_set::place`: own counts below p where it is below. Assumes nothing.
-use borrow.Author.Rules.{rules}
 use native.Mathlib.Omega.{arith}
 use Rattle.part_set.specs.Masks.{has}
 use Rattle.part_set.proofs.Rank.{place_lt, place_low, place_high}

@@ -1,5 +1,4 @@
 -- `part_set::single`: the shift loses nothing. Assumes nothing.
-use borrow.Author.Rules.{rules}
 use Rattle.part_set.proofs.OnePart.{one_shl}
 use Rattle.part_set.proofs.single.Goals as goal
 

@@ -1,5 +1,4 @@
 -- `part_set::with`: the union with one part. Assumes nothing.
-use borrow.Author.Rules.{rules}
 use mathlib.Core.Path.{ap}
 use lib.Bits.{bit_or}
 use Rattle.part_set.proofs.with.Goals as goal

@@ -1,6 +1,5 @@
 -- `places::destinations`: every row stays, then each that the list names is sent. Assumes nothing.
 use native.Mathlib.Omega.{arith}
-use borrow.Author.Rules.{rules}
 use Rattle.places.proofs.ObjectRows.{is_sound}
 use Rattle.places.proofs.SentObjects.{stretches, addressed, destined}
 use Rattle.places.proofs.destinations.Goals as goal

@@ -1,7 +1,6 @@
 -- `places::fill`: the places so far are filled. Assumes nothing.
-use Prim.Native.Nat.{◌-◌}
 use native.Mathlib.Omega.{arith}
-use Rattle.places.proofs.OwnParts.{Filling, filling_none, filling_more, filling_done}
+use Rattle.places.proofs.OwnParts.{filling_none, filling_more, filling_done}
 use Rattle.places.proofs.fill.Goals as goal
 
 pub loop-s-init : goal.loop-s-init

@@ -1,7 +1,6 @@
 -- `places::fill`: the places so far are filled. Assumes nothing.
 use Prim.Native.Nat.{◌-◌}
-use native.Mathlib.Omega.{arith}
-use Rattle.places.proofs.OwnParts.{Filling, filling_none, filling_more, filling_done}
+use Rattle.places.proofs.OwnParts.{Filling}
 use Rattle.places.proofs.fill.Given as goal
 
 abbrev pub invariant-loop-s : goal.invariant-loop-s

@@ -1,6 +1,5 @@
 -- `places::send_entry`: the name is found, and its row gets the part. Assumes nothing.
 use native.Mathlib.Omega.{arith}
-use borrow.Author.Rules.{rules}
 use Rattle.places.proofs.Entries.{entry_sought, entry_place, entry_row, entry_sent}
 use Rattle.places.proofs.send_entry.Goals as goal
 

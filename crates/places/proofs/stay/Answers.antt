@@ -1,8 +1,6 @@
 -- `places::stay`: the rows of the parts so far have their part. Assumes nothing.
-use Prim.Native.Nat.{◌-◌}
 use native.Mathlib.Omega.{arith}
-use borrow.Author.Rules.{rules}
-use Rattle.places.proofs.OwnParts.{Staying, staying_none, staying_part, staying_room, staying_more, staying_done}
+use Rattle.places.proofs.OwnParts.{staying_none, staying_part, staying_room, staying_more, staying_done}
 use Rattle.places.proofs.stay.Goals as goal
 
 pub loop-p-init : goal.loop-p-init

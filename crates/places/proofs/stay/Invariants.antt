@@ -1,8 +1,6 @@
 -- `places::stay`: the rows of the parts so far have their part. Assumes nothing.
 use Prim.Native.Nat.{◌-◌}
-use native.Mathlib.Omega.{arith}
-use borrow.Author.Rules.{rules}
-use Rattle.places.proofs.OwnParts.{Staying, staying_none, staying_part, staying_room, staying_more, staying_done}
+use Rattle.places.proofs.OwnParts.{Staying}
 use Rattle.places.proofs.stay.Given as goal
 
 abbrev pub invariant-loop-p : goal.invariant-loop-p

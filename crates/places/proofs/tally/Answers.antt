@@ -1,9 +1,7 @@
 -- `places::tally`: the parts so far are counted. Assumes nothing.
-use Prim.Native.Nat.{◌-◌}
 use native.Mathlib.Omega.{arith}
-use borrow.Author.Rules.{rules}
 use Rattle.places.proofs.ObjectRows.{is_sound}
-use Rattle.places.proofs.Tallies.{Tallying, tallying_none, tallying_part, tallying-asked, tallying-fits, tallying-more, tallying_done}
+use Rattle.places.proofs.Tallies.{tallying_none, tallying_part, tallying-asked, tallying-fits, tallying-more, tallying_done}
 use Rattle.places.proofs.tally.Goals as goal
 
 pub loop-p-init : goal.loop-p-init

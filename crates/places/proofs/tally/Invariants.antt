@@ -1,9 +1,6 @@
 -- `places::tally`: the parts so far are counted. Assumes nothing.
 use Prim.Native.Nat.{◌-◌}
-use native.Mathlib.Omega.{arith}
-use borrow.Author.Rules.{rules}
-use Rattle.places.proofs.ObjectRows.{is_sound}
-use Rattle.places.proofs.Tallies.{Tallying, tallying_none, tallying_part, tallying-asked, tallying-fits, tallying-more, tallying_done}
+use Rattle.places.proofs.Tallies.{Tallying}
 use Rattle.places.proofs.tally.Given as goal
 
 abbrev pub invariant-loop-p : goal.invariant-loop-p

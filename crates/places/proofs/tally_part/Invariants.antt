@@ -1,7 +1,6 @@
 -- `places::tally_part`: the rows so far are counted. Assumes nothing.
 use Prim.Native.Nat.{◌-◌}
-use native.Mathlib.Omega.{arith}
-use Rattle.places.proofs.CountedRows.{Counting, counting_none, counting_row, counting_fits, counting_more, counting_done}
+use Rattle.places.proofs.CountedRows.{Counting}
 use Rattle.places.proofs.tally_part.Given as goal
 
 abbrev pub invariant-loop-s : goal.invariant-loop-s

@@ -1,6 +1,5 @@
 -- `places::tally_row`: a covered row counts nothing, an object one in its part. Assumes nothing.
 use native.Mathlib.Omega.{arith}
-use borrow.Author.Rules.{rules}
 use Rattle.places.proofs.CountedRows.{row_skipped, part_there, part_small, row_stays, row-leaves}
 use Rattle.places.proofs.tally_row.Goals as goal
 

@@ -1,16 +1,15 @@
 -- `query::box_in`: the box so far, grown by the vertices of the rows that are left, is that of all rows. Assumes nothing.
-use Prim.Native.Nat.{◌-◌, ◌<◌}
+use Prim.Native.Nat.{◌<◌}
 use native.Mathlib.Omega.{arith}
 use mathlib.Core.Path.{sym, ap, ◌∙◌}
 use mathlib.Core.List.{[]}
 use lib.ListN.{length, get_or}
-use borrow.Author.Rules.{rules}
 use Rattle.paper.proofs.Outcomes.{as_refused}
 use Rattle.index.specs.Index.{set_in}
 use Rattle.rows.proofs.Laws.{part-rows, row_there, offset_there}
 use Rattle.query.specs.Vertices.{box_within}
 use Rattle.query.proofs.Accepted.{row_at_lem, body_at, no_part, part-answer}
-use Rattle.query.proofs.Growing.{Left, start, more, done}
+use Rattle.query.proofs.Growing.{start, more, done}
 use Rattle.query.proofs.box_in.Goals as goal
 
 pub returns-then-n-part : goal.returns-then-n-part

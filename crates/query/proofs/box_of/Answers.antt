@@ -1,6 +1,5 @@
 -- `query::box_of`: refused as the check refuses, or the box by the tables that it fills. Assumes nothing.
 use native.Mathlib.Omega.{arith}
-use borrow.Author.Rules.{rules}
 use Rattle.sound.proofs.Examining.{surveyed_refused, surveyed_sound}
 use Rattle.query.proofs.Accepted.{box_refused}
 use Rattle.query.proofs.box_of.Goals as goal

@@ -1,5 +1,4 @@
 -- `query::grown`: by whether there is a box so far. Assumes nothing.
-use borrow.Author.Rules.{rules}
 use Rattle.paper.specs.Box.{grow_all, box_around}
 use Rattle.query.specs.Vertices.{further}
 use Rattle.query.proofs.grown.Goals as goal

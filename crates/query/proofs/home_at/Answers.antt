@@ -1,5 +1,4 @@
 -- `query::home_at`: the residence set and the owner of a row, read from the image. Assumes nothing.
-use borrow.Author.Rules.{rules}
 use Rattle.paper.specs.Lookup.{home_of}
 use Rattle.index.proofs.RowFields.{row_mask, row_owner}
 use Rattle.query.proofs.home_at.Goals as goal

@@ -1,6 +1,5 @@
 -- `query::lookup`: refused as the check refuses, or looked up in the tables that it fills. Assumes nothing.
 use native.Mathlib.Omega.{arith}
-use borrow.Author.Rules.{rules}
 use Rattle.sound.proofs.Examining.{surveyed_refused, surveyed_sound}
 use Rattle.query.proofs.Accepted.{lookup_refused, same-entity}
 use Rattle.query.proofs.lookup.Goals as goal

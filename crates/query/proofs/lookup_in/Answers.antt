@@ -1,14 +1,12 @@
 -- `query::lookup_in`: what is found from the present part on is what is found in all. Assumes nothing.
-use Prim.Native.Nat.{◌-◌}
 use native.Mathlib.Omega.{arith}
 use mathlib.Core.Path.{refl, sym, ◌∙◌}
-use borrow.Author.Rules.{rules}
 use Rattle.paper.proofs.Outcomes.{as_refused}
 use Rattle.index.specs.Index.{set_in}
 use Rattle.index.proofs.Answers.{hit, miss, searchable, hit-row}
 use Rattle.rows.proofs.Laws.{row_there, offset_there}
 use Rattle.query.proofs.Accepted.{in_order, lookup_is}
-use Rattle.query.proofs.Looking.{Left, over, later, here}
+use Rattle.query.proofs.Looking.{over, later, here}
 use Rattle.query.proofs.lookup_in.Goals as goal
 
 pub loop-p-init : goal.loop-p-init

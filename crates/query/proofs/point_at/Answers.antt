@@ -1,6 +1,5 @@
 -- `query::point_at`: three words of the image, each finite. Assumes nothing.
 use mathlib.Core.Path.{ap, ◌∙◌}
-use borrow.Author.Rules.{rules}
 use Rattle.field.specs.Bytes.{finite}
 use Rattle.query.proofs.Points.{finites, point_is}
 use Rattle.query.proofs.point_at.Goals as goal

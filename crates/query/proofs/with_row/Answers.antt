@@ -1,6 +1,5 @@
 -- `query::with_row`: a row of dimension 0 grows the box, any other leaves it. Assumes nothing.
 use native.Mathlib.Omega.{arith}
-use borrow.Author.Rules.{rules}
 use Rattle.index.specs.Index.{row_from}
 use Rattle.index.proofs.RowFields.{row_dim}
 use Rattle.query.proofs.Growing.{body_of_vertex, by_vertex, no_vertex}

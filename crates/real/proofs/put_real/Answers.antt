@@ -1,5 +1,4 @@
 -- `put_real` is safe and ends: a real that is not NaN has bits. Assumes nothing.
-use borrow.Author.Rules.{rules}
 use Rattle.real.proofs.Nan.{equal_number}
 use Rattle.real.proofs.put_real.Goals as goal
 

@@ -1,6 +1,6 @@
 -- `residence::copies_covered`: the copies that are left give what all give. Assumes nothing.
 use native.Mathlib.Omega.{arith}
-use Rattle.residence.proofs.Laws.{CopiesInv, copies_start, copy-slot-there, copy-row-there, copies-turn, copies_open, copies_end}
+use Rattle.residence.proofs.Laws.{copies_start, copy-slot-there, copy-row-there, copies-turn, copies_open, copies_end}
 use Rattle.residence.proofs.copies_covered.Goals as goal
 
 pub loop-left-init : goal.loop-left-init

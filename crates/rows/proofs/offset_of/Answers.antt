@@ -1,5 +1,4 @@
 -- `rows::offset_of`: the entry of the row's place. Assumes nothing.
-use borrow.Author.Rules.{rules}
 use Rattle.rows.proofs.offset_of.Goals as goal
 
 pub returns : goal.returns

@@ -2,7 +2,7 @@
 use Prim.Native.Nat.{ℕ, zero, suc, ◌^◌, ◌<◌}
 use mathlib.Core.Path.{◌≡◌, refl, sym, ap₂, ◌∙◌, subst}
 use mathlib.Core.Bool.{true, ◌&&◌}
-use lib.Dec.{T, eqb}
+use lib.Dec.{eqb}
 use lib.Ieee.{binary64, of_bits}
 use Rattle.laws.proofs.Tests.{T_true}
 use Rattle.field.specs.Bytes.{finite}

@@ -1,5 +1,4 @@
 -- `sizing::judge_list`: the entries, then the words. Assumes nothing.
-use borrow.Author.Rules.{rules}
 use Rattle.sizing.proofs.Judging.{entry_refused, words_refused, list_passes}
 use Rattle.sizing.proofs.judge_list.Goals as goal
 

@@ -1,5 +1,4 @@
 -- `sizing::place`: the destinations, then the counts. Assumes nothing.
-use borrow.Author.Rules.{rules}
 use native.Mathlib.Omega.{arith}
 use Rattle.field.proofs.Reading.{bytes_all}
 use Rattle.sizing.proofs.Placing.{tallyable}

@@ -1,5 +1,4 @@
 -- `sizing::relocate`: the tables of the move, one after the other. Assumes nothing.
-use borrow.Author.Rules.{rules}
 use mathlib.Core.Path.{sym}
 use native.Mathlib.Omega.{arith}
 use Rattle.field.proofs.Reading.{bytes_all}

@@ -1,5 +1,4 @@
 -- `sizing::size`: refused as the check refuses, or what the list comes to. Assumes nothing.
-use borrow.Author.Rules.{rules}
 use native.Mathlib.Omega.{arith}
 use Rattle.field.proofs.Reading.{bytes_all}
 use Rattle.residence.proofs.covered.Marks.{zeros_at}

@@ -1,5 +1,4 @@
 -- `sizing::size_sound`: the list is judged, the objects placed anew, the rows and bytes summed. Assumes nothing.
-use borrow.Author.Rules.{rules}
 use native.Mathlib.Omega.{arith}
 use Rattle.field.proofs.Reading.{bytes_all}
 use Rattle.sizing.proofs.Judging.{stage_stops, stage_passes}

@@ -1,6 +1,5 @@
 -- `sound::all_rules`: the rules in their order. Assumes nothing.
 use native.Mathlib.Omega.{arith}
-use borrow.Author.Rules.{rules}
 use Rattle.paper.specs.declared.Rule.TheVariants.{Boundary, Copies}
 use Rattle.sound.proofs.Examining.{copies-ahead, homes_ahead, all_stop}
 use Rattle.sound.proofs.all_rules.Goals as goal

@@ -1,6 +1,5 @@
 -- `sound::check`: what `survey` finds. Assumes nothing.
 use native.Mathlib.Omega.{arith}
-use borrow.Author.Rules.{rules}
 use Rattle.sound.proofs.Examining.{surveyed_checks}
 use Rattle.sound.proofs.check.Goals as goal
 

@@ -1,7 +1,6 @@
 -- `sound::copy_rule`: the copies that are named, then the names of the lowest copies, and only then row by row. Assumes nothing.
 use native.Mathlib.Omega.{arith}
 use Rattle.paper.specs.declared.Rule.TheVariants.{Copies}
-use borrow.Author.Rules.{rules}
 use Rattle.sound.proofs.Readiness.{early, for_entities}
 use Rattle.sound.proofs.Behind.{twins_fail, names_distinct, names_judged}
 use Rattle.sound.proofs.copy_rule.Goals as goal

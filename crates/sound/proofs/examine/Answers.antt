@@ -3,7 +3,6 @@ use mathlib.Core.Path.{sym, ◌∙◌}
 use native.Mathlib.Omega.{arith}
 use Rattle.index.proofs.HeadLaws.{headed}
 use Rattle.index.proofs.Answers.{whole, not_whole}
-use borrow.Author.Rules.{rules}
 use Rattle.sound.proofs.Examining.{rooms_kept, head_refused, walk_refused, tables_of, rules_refused, rules_sound}
 use Rattle.sound.proofs.examine.Goals as goal
 

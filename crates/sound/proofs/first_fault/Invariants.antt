@@ -1,10 +1,8 @@
 -- `sound::first_fault`: what is left of the parts and rows gives the answer, in both loops. Assumes nothing.
 use Prim.Native.Nat.{◌-◌}
-use native.Mathlib.Omega.{arith}
 use Rattle.index.specs.Index.{set_in}
 use Rattle.sound.specs.Faults.{tested}
-use Rattle.rows.proofs.Laws.{part-rows}
-use Rattle.sound.proofs.Loops.{AtPart, AtSlot, start, enter, skip, hit, leave, over}
+use Rattle.sound.proofs.Loops.{AtPart, AtSlot}
 use Rattle.sound.proofs.first_fault.Given as goal
 
 abbrev pub invariant-loop-s : goal.invariant-loop-s

@@ -1,7 +1,6 @@
 -- `sound::home_rules`: each table is filled before the rule that reads it. Assumes nothing.
 use native.Mathlib.Omega.{arith}
 use Rattle.residence.proofs.owner.Laws.{countable}
-use borrow.Author.Rules.{rules}
 use Rattle.paper.specs.declared.Rule.TheVariants.{Residence}
 use Rattle.sound.proofs.Readiness.{for_residence, for_cover}
 use Rattle.sound.proofs.Behind.{homes_stop, owner_ready, homes_judged}

@@ -1,7 +1,6 @@
 -- `sound::judge`: each test by its own function. Assumes nothing.
 use mathlib.Core.Path.{sym}
 use native.Mathlib.Omega.{arith}
-use borrow.Author.Rules.{rules}
 use Rattle.rows.proofs.Laws.{part_there, row_there, offset_there}
 use Rattle.rows.proofs.Copied.{index_own}
 use Rattle.sound.proofs.Judging.{as_told, as_fields, as_order, told_ready, for_boundary, for_copies}

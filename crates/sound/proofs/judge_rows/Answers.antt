@@ -1,5 +1,4 @@
 -- `sound::judge_rows`: a fault is the paper's refusal, and where there is none the rule is passed. Assumes nothing.
-use borrow.Author.Rules.{rules}
 use Rattle.sound.proofs.Judging.{rule_ready, rule_passes, rule_fault}
 use Rattle.sound.proofs.Answers.{clear_passes, fault_place_lem}
 use Rattle.sound.proofs.Stages.{goes, stops}

@@ -2,7 +2,6 @@
 use mathlib.Core.Path.{refl}
 use native.Mathlib.Omega.{arith}
 use Rattle.paper.specs.declared.Rule.TheVariants.{Fields, Order, Boundary}
-use borrow.Author.Rules.{rules}
 use Rattle.sound.proofs.Readiness.{early}
 use Rattle.sound.proofs.Stages.{nothing_ahead, next, halted, gone}
 use Rattle.sound.proofs.shape_rules.Goals as goal

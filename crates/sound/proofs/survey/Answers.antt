@@ -1,6 +1,5 @@
 -- `sound::survey`: what `examine` finds, less the tables that are local. Assumes nothing.
 use native.Mathlib.Omega.{arith}
-use borrow.Author.Rules.{rules}
 use Rattle.residence.proofs.covered.Marks.{zeros_at}
 use Rattle.sound.proofs.Examining.{sound_image, rows_few, survey_refused, survey_sound}
 use Rattle.sound.proofs.survey.Goals as goal

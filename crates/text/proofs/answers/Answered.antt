@@ -1,13 +1,12 @@
 -- What the check leaves is what the writers of its answers want, and their texts are the text of its outcome. Assumes nothing.
-use Prim.Native.Nat.{ℕ, ◌+◌, ◌≤◌, ◌<◌}
+use Prim.Native.Nat.{ℕ, ◌≤◌}
 use native.Mathlib.Omega.{arith}
 use mathlib.Core.Path.{◌≡◌, sym, ap, ◌∙◌, subst}
 use mathlib.Core.List.{List}
 use lib.ListN.{length}
 use lib.Dec.{T}
 use lib.Pow.{are_bytes}
-use Rattle.paper.specs.Outcome.{Outcome, Place, refused, accepted}
-use Rattle.paper.specs.Image.{Set}
+use Rattle.paper.specs.Outcome.{Place, refused, accepted}
 use Rattle.paper.specs.Sound.{sound_of}
 use Rattle.paper.specs.Listing.{answer_text}
 use Rattle.index.specs.Index.{set_in, Indexed}

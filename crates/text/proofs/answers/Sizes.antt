@@ -1,28 +1,27 @@
 -- How long the text can be: at most four bytes for each byte of a sound image, so at most 262,144 for an image that is listed.
 -- Assumes nothing.
-use Prim.Native.Nat.{ℕ, zero, suc, ◌+◌, ◌*◌, ◌/◌, ◌%◌, ◌^◌, ◌≤◌, ◌<◌}
-use native.Mathlib.Nat.{pow-suc, not-suc-le-zero}
+use Prim.Native.Nat.{ℕ, suc, ◌+◌, ◌*◌, ◌^◌, ◌≤◌, ◌<◌}
 use native.Mathlib.Omega.{arith}
-use mathlib.Core.Path.{◌≡◌, refl, sym, ap, ◌∙◌, subst}
+use mathlib.Core.Path.{◌≡◌, refl, ap, ◌∙◌, subst}
 use mathlib.Core.Bool.{Bool, true, false, not, cond}
 use mathlib.Core.Logic.{inl, inr}
-use mathlib.Core.List.{List, [], ◌∷◌, ◌++◌, map}
-use lib.ListN.{length, get_or, length-append, length-map}
+use mathlib.Core.List.{List, [], ◌∷◌, map}
+use lib.ListN.{length, get_or, length-append}
 use lib.Dec.{T, ltb, ltb→lt, nltb→le, lit<, lit≤}
 use lib.Pow.{are_bytes}
 use Rattle.laws.specs.Lists.{In, flat, zip, from, up_to, every}
-use Rattle.laws.proofs.Tests.{decide, and_l, and_r}
+use Rattle.laws.proofs.Tests.{and_l, and_r}
 use Rattle.field.specs.Bytes.{bytes_of}
 use Rattle.part_set.specs.Masks.{others}
 use Rattle.part_set.proofs.MaskParts.{others_in}
 use Rattle.paper.specs.Outcome.{Outcome, Place, refused, accepted}
-use Rattle.paper.specs.Image.{Row, Set, no_row, remotes, row_length_of, row_bytes, bytes_of_part, image_of, row_at}
+use Rattle.paper.specs.Image.{Row, Set, no_row, row_length_of, row_bytes, bytes_of_part, image_of, row_at}
 use Rattle.paper.specs.Sound.{sound_of}
 use Rattle.decimal.specs.Decimal.{decimal}
-use Rattle.paper.specs.Listing.{copy_text, row_line, part_lines, set_line_list, head_line, refused_word, too_long, answer_text, max_listing, listing_of}
+use Rattle.paper.specs.Listing.{copy_text, row_line, part_lines, set_line_list, head_line, too_long, answer_text, max_listing, listing_of}
 use Rattle.paper.proofs.RowBack.{RowFits, length-row}
 use Rattle.demands.proofs.Sound.Facts.{Sound, sound_inv}
-use Rattle.text.specs.Lines.{spaced, numbers_text, copies_text, refusal_line}
+use Rattle.text.specs.Lines.{spaced, copies_text, refusal_line}
 use Rattle.decimal.proofs.Runs.{Splits}
 use Rattle.decimal.proofs.Decimals.{length-decimal, length_below}
 use Rattle.text.proofs.lines.Parts.{spaced_none, spaced_next, numbers_split, copy_split, row_split}

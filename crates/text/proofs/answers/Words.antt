@@ -7,7 +7,7 @@ use Rattle.laws.specs.Lists.{flat}
 use Rattle.paper.specs.Outcome.{accepted}
 use Rattle.paper.specs.Image.{Set}
 use Rattle.decimal.specs.Decimal.{decimal}
-use Rattle.paper.specs.Listing.{joined, line, head_line, set_line_list, refused_word, answer_text}
+use Rattle.paper.specs.Listing.{line, head_line, set_line_list, refused_word, answer_text}
 use Rattle.text.specs.Lines.{spaced, refusal_line}
 use Rattle.decimal.proofs.Runs.{Splits}
 use Rattle.text.proofs.lines.Parts.{joined-spaced}

@@ -1,5 +1,5 @@
 -- The remote copies of a row, one a turn: those of the parts that are left, with the words from `from` on, give all. Assumes nothing.
-use Prim.Native.Nat.{ℕ, zero, suc, ◌+◌, ◌-◌, ◌*◌, ◌≤◌, ◌<◌}
+use Prim.Native.Nat.{ℕ, suc, ◌+◌, ◌*◌, ◌≤◌, ◌<◌}
 use native.Mathlib.Nat.{add-zero}
 use native.Mathlib.Omega.{arith}
 use mathlib.Core.Path.{◌≡◌, refl, sym, ap, ap₂, ◌∙◌}
@@ -7,7 +7,6 @@ use mathlib.Core.Bool.{true}
 use mathlib.Core.List.{List, [], ◌∷◌, ◌++◌, map}
 use lib.ListN.{length, drop}
 use lib.Seq.{drop-drop}
-use lib.Dec.{T}
 use Rattle.laws.specs.Lists.{zip}
 use Rattle.laws.proofs.Tests.{true_T}
 use Rattle.field.specs.Bytes.{u32_at, u64_at, words}
@@ -15,7 +14,7 @@ use Rattle.field.proofs.Reading.{u32_drop}
 use Rattle.part_set.specs.Masks.{has, parts_in, others, count, lowest_of, Rest}
 use Rattle.part_set.proofs.MaskParts.{others-count}
 use Rattle.part_set.proofs.Walk.{parts_none, count_parts}
-use Rattle.paper.specs.Image.{remotes, row_length_of}
+use Rattle.paper.specs.Image.{remotes}
 use Rattle.paper.specs.Listing.{copy_text}
 use Rattle.index.specs.Index.{row_from}
 use Rattle.index.proofs.RowFields.{row_mask, row-slots, row-length}

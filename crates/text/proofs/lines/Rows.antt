@@ -2,22 +2,19 @@
 use Prim.Native.Nat.{ℕ, ◌+◌, ◌-◌, ◌≤◌, ◌<◌}
 use native.Mathlib.Omega.{arith}
 use mathlib.Core.Path.{◌≡◌, refl, sym, ap, ◌∙◌}
-use mathlib.Core.Bool.{Bool, true}
 use mathlib.Core.List.{List, [], ◌∷◌}
 use lib.ListN.{length, get_or}
-use lib.Dec.{T}
 use Rattle.laws.proofs.Tests.{T_true}
 use Rattle.field.specs.Bytes.{u8_at, u32_at, u64_at}
 use Rattle.part_set.specs.Masks.{has}
 use Rattle.paper.specs.Image.{Row, Set, row_length_of, row_at}
 use Rattle.paper.specs.Listing.{row_line, part_lines, set_line_list}
-use Rattle.index.specs.Index.{row_from, set_in, Indexed}
+use Rattle.index.specs.Index.{row_from, set_in}
 use Rattle.index.proofs.RowFields.{row_number, row_dim, row_owner, row_mask}
 use Rattle.rows.proofs.Laws.{part-rows, part_there, row_there}
 use Rattle.copies.proofs.Placed.{row_fits}
 use Rattle.text.specs.Lines.{numbers_text, RowThere, Listable}
-use Rattle.decimal.specs.Writing.{Room, Wrote}
-use Rattle.decimal.proofs.Runs.{Splits, texts_from, room_as, wrote_as}
+use Rattle.decimal.proofs.Runs.{texts_from}
 use Rattle.text.proofs.lines.Parts.{row_numbers}
 
 -- ---- the numbers of the row at o, as they are read

@@ -1,5 +1,4 @@
 -- `text::put_listing` meets its contract: the line for an input that is too long, or the answer's text. Assumes nothing.
-use borrow.Author.Rules.{rules}
 use Rattle.decimal.proofs.Runs.{wrote_as}
 use Rattle.text.proofs.Ends.{listing_long, listing_read}
 use Rattle.text.proofs.put_listing.Goals as goal

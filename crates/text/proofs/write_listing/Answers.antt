@@ -1,5 +1,4 @@
 -- `text::write_listing` meets its contract: the place behind the text lies within the buffer, or past it. Assumes nothing.
-use borrow.Author.Rules.{rules}
 use Rattle.text.proofs.Ends.{ends_short, ends_whole}
 use Rattle.text.proofs.write_listing.Goals as goal
 

@@ -3,7 +3,6 @@ use native.Mathlib.Omega.{arith}
 use lib.ListN.{get_or}
 use Rattle.part_set.proofs.Rank.{count_le}
 use Rattle.writer.proofs.Rows.{own_pos, body_ready, row_written}
-use borrow.Author.Rules.{rules}
 use Rattle.writer.proofs.build_row.Goals as goal
 
 pub owner_of-owner-requires : goal.owner_of-owner-requires

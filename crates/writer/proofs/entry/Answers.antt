@@ -1,5 +1,4 @@
 -- `writer::entry`. Assumes nothing.
-use borrow.Author.Rules.{rules}
 use Rattle.writer.proofs.entry.Goals as goal
 
 pub returns : goal.returns

@@ -1,10 +1,9 @@
 -- `writer::gather_faces`: the faces that are left to store give all. Assumes nothing.
-use Prim.Native.Nat.{◌-◌, ◌<◌}
+use Prim.Native.Nat.{◌<◌}
 use native.Mathlib.Omega.{arith}
 use mathlib.Core.Path.{refl, ap}
-use Rattle.field.proofs.Stores.{Storing, store_none, store_done}
+use Rattle.field.proofs.Stores.{store_none, store_done}
 use Rattle.part_set.specs.Masks.{lowest_of}
-use Rattle.writer.specs.Rows.{faces_at}
 use Rattle.writer.proofs.Gathered.{faces-length, face_inside, face_found, face_stored}
 use borrow.Author.Rules.{rules}
 use Rattle.writer.proofs.gather_faces.Goals as goal

@@ -1,12 +1,7 @@
 -- `writer::gather_faces`: the faces that are left to store give all. Assumes nothing.
-use Prim.Native.Nat.{◌-◌, ◌<◌}
-use native.Mathlib.Omega.{arith}
-use mathlib.Core.Path.{refl, ap}
-use Rattle.field.proofs.Stores.{Storing, store_none, store_done}
-use Rattle.part_set.specs.Masks.{lowest_of}
+use Prim.Native.Nat.{◌-◌}
+use Rattle.field.proofs.Stores.{Storing}
 use Rattle.writer.specs.Rows.{faces_at}
-use Rattle.writer.proofs.Gathered.{faces-length, face_inside, face_found, face_stored}
-use borrow.Author.Rules.{rules}
 use Rattle.writer.proofs.gather_faces.Given as goal
 
 abbrev pub invariant-loop-k : goal.invariant-loop-k

@@ -1,6 +1,5 @@
 -- `writer::put_front`: four runs in a row. Assumes nothing.
 use Rattle.writer.proofs.Rows.{front-written}
-use borrow.Author.Rules.{rules}
 use Rattle.writer.proofs.put_front.Goals as goal
 
 pub returns : goal.returns

@@ -2,7 +2,6 @@
 use mathlib.Core.Path.{refl}
 use mathlib.Core.List.{[], ◌∷◌}
 use Rattle.laws.proofs.Stores.{sets_then}
-use borrow.Author.Rules.{rules}
 use Rattle.writer.proofs.put_head.Goals as goal
 
 pub returns : goal.returns

@@ -3,7 +3,6 @@ use native.Mathlib.Omega.{arith}
 use mathlib.Core.Path.{sym}
 use Rattle.writer.specs.Rows.{new_rows}
 use Rattle.writer.proofs.Parts.{rows-count, part-put, part_length}
-use borrow.Author.Rules.{rules}
 use Rattle.writer.proofs.put_part.Goals as goal
 
 pub put_word-requires : goal.put_word-requires

@@ -1,8 +1,7 @@
 -- `writer::put_rows`: the rows that are left give all. Assumes nothing.
-use Prim.Native.Nat.{◌+◌, ◌-◌}
+use Prim.Native.Nat.{◌+◌}
 use native.Mathlib.Omega.{arith}
-use Rattle.writer.proofs.Parts.{RowsLeft, rows_none, rows-room, rows_more, rows_done}
-use borrow.Author.Rules.{rules}
+use Rattle.writer.proofs.Parts.{rows_none, rows-room, rows_more, rows_done}
 use Rattle.writer.proofs.put_rows.Goals as goal
 
 pub loop-k-init : goal.loop-k-init

@@ -1,8 +1,6 @@
 -- `writer::put_rows`: the rows that are left give all. Assumes nothing.
-use Prim.Native.Nat.{◌+◌, ◌-◌}
-use native.Mathlib.Omega.{arith}
-use Rattle.writer.proofs.Parts.{RowsLeft, rows_none, rows-room, rows_more, rows_done}
-use borrow.Author.Rules.{rules}
+use Prim.Native.Nat.{◌-◌}
+use Rattle.writer.proofs.Parts.{RowsLeft}
 use Rattle.writer.proofs.put_rows.Given as goal
 
 abbrev pub invariant-loop-k : goal.invariant-loop-k

@@ -4,8 +4,7 @@ use native.Mathlib.Omega.{arith}
 use mathlib.Core.Path.{ap, ◌∙◌}
 use lib.ListN.{get_or}
 use Rattle.part_set.specs.Masks.{rank_of}
-use Rattle.writer.proofs.Slots.{SlotsLeft, slots_none, slots_now, slots-more, slots_done}
-use borrow.Author.Rules.{rules}
+use Rattle.writer.proofs.Slots.{slots_none, slots_now, slots-more, slots_done}
 use Rattle.writer.proofs.put_slots.Goals as goal
 
 pub loop-left-init : goal.loop-left-init

@@ -2,7 +2,6 @@
 use mathlib.Core.Path.{ap, ◌∙◌}
 use lib.Seq.{sets}
 use Rattle.writer.proofs.Rows.{front_same}
-use borrow.Author.Rules.{rules}
 use Rattle.writer.proofs.put_source.Goals as goal
 
 pub returns : goal.returns

@@ -1,5 +1,4 @@
 -- `decimal::writing::put_decimal`: the digits before the last, by recursion, then the last. Assumes nothing.
-use borrow.Author.Rules.{rules}
 use native.Mathlib.Omega.{arith}
 use mathlib.Core.Path.{sym}
 use Rattle.decimal.proofs.Decimals.{decimal-one, decimal-more}

@@ -1,6 +1,4 @@
 -- `writing::put_byte` meets its contract: past the end nothing is stored. Assumes nothing.
-use borrow.Author.Rules.{rules}
-use native.Mathlib.Omega.{arith}
 use mathlib.Core.Path.{ap, ◌∙◌}
 use lib.ListN.{length, length-set}
 use Rattle.decimal.proofs.Runs.{wrote_byte, wrote_nothing}
@@ -14,6 +12,6 @@ shape_of-out c =
 pub returns : goal.returns
 returns c =
     elim c.if-at-out.branch [
-    | then-at-out w ↦ wrote_byte w.out-is
-    | else-at-out w ↦ wrote_nothing w.out-is w.if-at-out.false
+      | then-at-out w ↦ wrote_byte w.out-is
+      | else-at-out w ↦ wrote_nothing w.out-is w.if-at-out.false
     ]

@@ -1,7 +1,6 @@
 -- `writing::put_field` meets its contract: a byte, then the number. Assumes nothing.
-use borrow.Author.Rules.{rules}
 use mathlib.Core.Path.{refl}
-use Rattle.decimal.proofs.Runs.{room_next, wrote_both}
+use Rattle.decimal.proofs.Runs.{wrote_both}
 use Rattle.decimal.proofs.writing.put_field.Goals as goal
 
 pub returns : goal.returns

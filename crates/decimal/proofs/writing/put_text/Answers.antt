@@ -1,9 +1,6 @@
 -- `writing::put_text` meets its contract: what is left of the word gives the word. Assumes nothing.
-use Prim.Native.Nat.{◌-◌}
-use native.Mathlib.Omega.{arith}
 use mathlib.Core.Path.{refl}
-use lib.ListN.{length, drop}
-use Rattle.decimal.proofs.Runs.{Left, left_all, left_room, left_next, left_done, bytes_next, bytes_end}
+use Rattle.decimal.proofs.Runs.{left_all, left_room, left_next, left_done, bytes_next, bytes_end}
 use Rattle.decimal.proofs.writing.put_text.Goals as goal
 
 pub loop-i-init : goal.loop-i-init

@@ -1,9 +1,7 @@
 -- `writing::put_text` meets its contract: what is left of the word gives the word. Assumes nothing.
 use Prim.Native.Nat.{◌-◌}
-use native.Mathlib.Omega.{arith}
-use mathlib.Core.Path.{refl}
 use lib.ListN.{length, drop}
-use Rattle.decimal.proofs.Runs.{Left, left_all, left_room, left_next, left_done, bytes_next, bytes_end}
+use Rattle.decimal.proofs.Runs.{Left}
 use Rattle.decimal.proofs.writing.put_text.Given as goal
 
 abbrev pub invariant-loop-i : goal.invariant-loop-i

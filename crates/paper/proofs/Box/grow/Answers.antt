@@ -1,5 +1,4 @@
 -- `paper::Box::grow`: six calls, joined by `cc`. Assumes nothing.
-use borrow.Author.Rules.{rules}
 use Rattle.paper.specs.Box.{grow}
 use Rattle.paper.proofs.Box.grow.Goals as goal
 

@@ -1,5 +1,4 @@
 -- `paper::Refusal::at_entry`: the refusal with the entry's number. Assumes nothing.
-use borrow.Author.Rules.{rules}
 use Rattle.paper.proofs.Refusal.at_entry.Goals as goal
 
 pub returns : goal.returns

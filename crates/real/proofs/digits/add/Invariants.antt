@@ -1,6 +1,5 @@
 -- `digits::add` is safe and ends: a carry is small. Assumes nothing.
 use Prim.Native.Nat.{◌≤◌, ◌<◌}
-use borrow.Author.Rules.{rules}
 use Rattle.real.proofs.digits.add.Given as goal
 
 abbrev pub invariant-loop-i : goal.invariant-loop-i

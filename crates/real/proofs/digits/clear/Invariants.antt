@@ -1,6 +1,5 @@
 -- `digits::clear` is safe and ends. Assumes nothing.
 use Prim.Native.Nat.{◌-◌}
-use borrow.Author.Rules.{rules}
 use Rattle.real.proofs.digits.clear.Given as goal
 
 abbrev pub invariant-loop-i : goal.invariant-loop-i

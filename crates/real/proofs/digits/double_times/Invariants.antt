@@ -1,5 +1,4 @@
 -- `digits::double_times` is safe and ends. Assumes nothing.
-use borrow.Author.Rules.{rules}
 use Rattle.real.proofs.digits.double_times.Given as goal
 
 abbrev pub invariant-loop-left : goal.invariant-loop-left

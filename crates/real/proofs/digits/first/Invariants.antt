@@ -1,6 +1,5 @@
 -- `digits::first` is safe, ends, and answers a place or the end. Assumes nothing.
 use Prim.Native.Nat.{◌-◌, ◌≤◌}
-use borrow.Author.Rules.{rules}
 use Rattle.real.proofs.digits.first.Given as goal
 
 abbrev pub invariant-loop-i : goal.invariant-loop-i

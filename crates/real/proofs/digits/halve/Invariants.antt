@@ -1,6 +1,5 @@
 -- `digits::halve` is safe and ends: a rest is 0 or 1. Assumes nothing.
 use Prim.Native.Nat.{◌-◌, ◌<◌}
-use borrow.Author.Rules.{rules}
 use Rattle.real.proofs.digits.halve.Given as goal
 
 abbrev pub invariant-loop-i : goal.invariant-loop-i

@@ -1,6 +1,5 @@
 -- `digits::last` is safe, ends, and answers a place or the end. Assumes nothing.
 use Prim.Native.Nat.{◌≤◌}
-use borrow.Author.Rules.{rules}
 use Rattle.real.proofs.digits.last.Given as goal
 
 abbrev pub invariant-loop-i : goal.invariant-loop-i

@@ -1,6 +1,5 @@
 -- `digits::spell` is safe and ends. Assumes nothing.
 use Prim.Native.Nat.{◌≤◌}
-use borrow.Author.Rules.{rules}
 use Rattle.real.proofs.digits.spell.Given as goal
 
 abbrev pub invariant-loop-i : goal.invariant-loop-i

@@ -1,6 +1,5 @@
 -- `rounding::shortest` is safe and ends. Assumes nothing.
 use Prim.Native.Nat.{◌-◌, ◌≤◌}
-use borrow.Author.Rules.{rules}
 use Rattle.real.proofs.rounding.shortest.Given as goal
 
 abbrev pub invariant-loop-count : goal.invariant-loop-count

@@ -1,7 +1,5 @@
 -- `residence::covered::cover`: the parts so far are marked, and no entry behind them. Assumes nothing.
-use Prim.Native.Nat.{◌-◌}
-use native.Mathlib.Omega.{arith}
-use Rattle.residence.proofs.covered.Parts.{CoverInv, cover_start, cover_again, cover_turn, cover_end}
+use Rattle.residence.proofs.covered.Parts.{cover_start, cover_again, cover_turn, cover_end}
 use Rattle.residence.proofs.covered.cover.Goals as goal
 
 pub loop-p-init : goal.loop-p-init

@@ -1,10 +1,9 @@
 -- `residence::covered::cover_part`: the slots that the rows so far name are marked. Assumes nothing.
 use Prim.Native.Nat.{◌-◌}
 use mathlib.Core.List.{[]}
-use native.Mathlib.Omega.{arith}
 use lib.ListN.{get_or}
 use Rattle.index.specs.Index.{set_in}
-use Rattle.residence.proofs.covered.Parts.{PartInv, part_asked, part_start, part-row-asked, part-row, part_turn, part_end}
+use Rattle.residence.proofs.covered.Parts.{PartInv}
 use Rattle.residence.proofs.covered.cover_part.Given as goal
 
 abbrev pub invariant-loop-s : goal.invariant-loop-s

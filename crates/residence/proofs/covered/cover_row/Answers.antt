@@ -1,8 +1,6 @@
 -- `residence::covered::cover_row`: the slots read so far are marked. Assumes nothing.
-use Prim.Native.Nat.{◌+◌, ◌-◌}
 use native.Mathlib.Omega.{arith}
-use Rattle.residence.proofs.covered.Rows.{RowInv, row-vertex, row_start, row_slot_read, row_slot_there, row_turn, row_end}
-use borrow.Author.Rules.{rules}
+use Rattle.residence.proofs.covered.Rows.{row-vertex, row_start, row_slot_read, row_slot_there, row_turn, row_end}
 use Rattle.residence.proofs.covered.cover_row.Goals as goal
 
 pub returns-then-dim-eq0 : goal.returns-then-dim-eq0

@@ -1,7 +1,6 @@
 -- `residence::owner::count_objects`: the parts so far are counted. Assumes nothing.
-use Prim.Native.Nat.{◌-◌}
 use native.Mathlib.Omega.{arith}
-use Rattle.residence.proofs.owner.Laws.{CountInv, count_start, count_asked, count_turn, count_end}
+use Rattle.residence.proofs.owner.Laws.{count_start, count_asked, count_turn, count_end}
 use Rattle.residence.proofs.owner.count_objects.Goals as goal
 
 pub loop-p-init : goal.loop-p-init

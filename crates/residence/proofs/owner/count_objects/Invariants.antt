@@ -1,7 +1,6 @@
 -- `residence::owner::count_objects`: the parts so far are counted. Assumes nothing.
 use Prim.Native.Nat.{◌-◌}
-use native.Mathlib.Omega.{arith}
-use Rattle.residence.proofs.owner.Laws.{CountInv, count_start, count_asked, count_turn, count_end}
+use Rattle.residence.proofs.owner.Laws.{CountInv}
 use Rattle.residence.proofs.owner.count_objects.Given as goal
 
 abbrev pub invariant-loop-p : goal.invariant-loop-p

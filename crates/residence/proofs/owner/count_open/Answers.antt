@@ -1,8 +1,7 @@
 -- `residence::owner::count_open`: found so far are those among the first entries. Assumes nothing.
-use Prim.Native.Nat.{◌+◌, ◌-◌}
+use Prim.Native.Nat.{◌+◌}
 use native.Mathlib.Omega.{arith}
-use Rattle.residence.proofs.owner.Laws.{OpenInv, open_le, open_start, open_turn, open_end}
-use borrow.Author.Rules.{rules}
+use Rattle.residence.proofs.owner.Laws.{open_le, open_start, open_turn, open_end}
 use Rattle.residence.proofs.owner.count_open.Goals as goal
 
 pub loop-i-init : goal.loop-i-init

@@ -1,8 +1,6 @@
 -- `residence::owner::count_open`: found so far are those among the first entries. Assumes nothing.
-use Prim.Native.Nat.{◌+◌, ◌-◌}
-use native.Mathlib.Omega.{arith}
-use Rattle.residence.proofs.owner.Laws.{OpenInv, open_le, open_start, open_turn, open_end}
-use borrow.Author.Rules.{rules}
+use Prim.Native.Nat.{◌-◌}
+use Rattle.residence.proofs.owner.Laws.{OpenInv}
 use Rattle.residence.proofs.owner.count_open.Given as goal
 
 abbrev pub invariant-loop-i : goal.invariant-loop-i

@@ -1,7 +1,5 @@
 -- `residence::owner::owner_of`: the best so far and the parts that are left give the poorest of all. Assumes nothing.
-use native.Mathlib.Omega.{arith}
-use Rattle.residence.proofs.owner.Laws.{OwnerInv, owner_start, owner_turn, owner_end}
-use borrow.Author.Rules.{rules}
+use Rattle.residence.proofs.owner.Laws.{OwnerInv}
 use Rattle.residence.proofs.owner.owner_of.Given as goal
 
 abbrev pub invariant-loop-left : goal.invariant-loop-left

@@ -1,6 +1,5 @@
 -- `residence::owner::poorer` meets its contract. Assumes nothing.
 use borrow.Author.Tests.{lt-ltb, le-ltb}
-use borrow.Author.Rules.{rules}
 use Rattle.residence.proofs.owner.poorer.Goals as goal
 
 pub returns-then-counts-q : goal.returns-then-counts-q

@@ -1,5 +1,4 @@
 -- `rows::values::one_value` meets its contract: the values of kinds and bits that stand are the same where both are. Assumes nothing.
-use borrow.Author.Rules.{rules}
 use native.Mathlib.Omega.{arith}
 use mathlib.Core.Path.{◌∙◌}
 use Rattle.rows.proofs.values.Laws.{plain, values_compared}

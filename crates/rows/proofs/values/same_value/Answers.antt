@@ -1,5 +1,4 @@
 -- `rows::values::same_value` meets its contract: nine arms, each written out. Assumes nothing.
-use borrow.Author.Rules.{rules}
 use Rattle.rows.proofs.values.same_value.Goals as goal
 
 pub float_to_bits-result : goal.float_to_bits-result

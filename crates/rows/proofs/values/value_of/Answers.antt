@@ -1,5 +1,4 @@
 -- `rows::values::value_of` meets its contract: by kind. Assumes nothing.
-use borrow.Author.Rules.{rules}
 use native.Mathlib.Omega.{arith}
 use mathlib.Core.Path.{◌∙◌, ap}
 use Rattle.paper.specs.declared.Value.TheVariants as value

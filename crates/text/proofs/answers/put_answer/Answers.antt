@@ -1,5 +1,4 @@
 -- `text::answers::put_answer` meets its contract: what the check leaves is what the writers want. Assumes nothing.
-use borrow.Author.Rules.{rules}
 use native.Mathlib.Omega.{arith}
 use Rattle.field.proofs.Reading.{bytes_all}
 use Rattle.sound.proofs.Examining.{surveyed_refused, surveyed_sound}

@@ -1,5 +1,4 @@
 -- `text::answers::put_head` meets its contract: the mark, the version, the part count, the line feed. Assumes nothing.
-use borrow.Author.Rules.{rules}
 use mathlib.Core.Path.{sym}
 use Rattle.decimal.proofs.Runs.{room_first, room_next, room_as, wrote_both, wrote_as}
 use Rattle.text.proofs.answers.Words.{head_split, fields_next, fields_none}

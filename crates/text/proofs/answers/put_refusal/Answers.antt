@@ -1,5 +1,4 @@
 -- `text::answers::put_refusal` meets its contract: the word, the number, the place, the line feed. Assumes nothing.
-use borrow.Author.Rules.{rules}
 use mathlib.Core.Path.{sym}
 use Rattle.decimal.proofs.Runs.{room_first, room_next, room_as, wrote_both, wrote_as}
 use Rattle.text.proofs.answers.Words.{refusal_split, fields_next, fields_none}

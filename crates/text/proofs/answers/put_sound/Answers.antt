@@ -1,5 +1,4 @@
 -- `text::answers::put_sound` meets its contract: the head, then the lines of the set. Assumes nothing.
-use borrow.Author.Rules.{rules}
 use mathlib.Core.Path.{sym, ap}
 use Rattle.paper.specs.Listing.{head_line}
 use Rattle.decimal.proofs.Runs.{room_first, room_next, room_as, wrote_both, wrote_as}

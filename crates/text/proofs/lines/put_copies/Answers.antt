@@ -1,7 +1,6 @@
 -- `text::lines::put_copies` meets its contract: the copies in the parts that are left give all copies. Assumes nothing.
-use borrow.Author.Rules.{rules}
 use native.Mathlib.Omega.{arith}
-use Rattle.text.proofs.lines.Copies.{CopiesLeft, head_room, without_asked, copies_start, copies-room, copies-done, word_there, copy_room, copies-more}
+use Rattle.text.proofs.lines.Copies.{head_room, without_asked, copies_start, copies-room, copies-done, word_there, copy_room, copies-more}
 use Rattle.text.proofs.lines.put_copies.Goals as goal
 
 pub overflow_add-row : goal.overflow_add-row

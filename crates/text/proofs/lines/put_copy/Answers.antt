@@ -1,5 +1,4 @@
 -- `text::lines::put_copy` meets its contract: the part, a colon, the slot. Assumes nothing.
-use borrow.Author.Rules.{rules}
 use Rattle.decimal.proofs.Runs.{room_first, room_next, wrote_both}
 use Rattle.text.proofs.lines.Parts.{byte_first, copy_split}
 use Rattle.text.proofs.lines.put_copy.Goals as goal

@@ -1,5 +1,4 @@
 -- `text::lines::put_numbers` meets its contract: six writers in a row. Assumes nothing.
-use borrow.Author.Rules.{rules}
 use mathlib.Core.Path.{sym}
 use Rattle.decimal.proofs.Runs.{room_first, room_next, wrote_both, wrote_as}
 use Rattle.text.proofs.lines.Parts.{numbers_split, spaced_next, spaced_last}

@@ -1,13 +1,12 @@
 -- `text::lines::put_part` meets its contract: the lines of the rows that are left give the lines of all. Assumes nothing.
-use Prim.Native.Nat.{◌-◌, ◌<◌}
+use Prim.Native.Nat.{◌<◌}
 use native.Mathlib.Omega.{arith}
 use mathlib.Core.List.{[]}
 use mathlib.Core.Path.{sym}
 use lib.ListN.{length, get_or}
-use Rattle.paper.specs.Listing.{part_lines}
 use Rattle.index.specs.Index.{set_in}
-use Rattle.decimal.proofs.Runs.{Left, left_all, left_room, left_next, left_done, room_as, wrote_as, texts_from, texts_next, texts_end}
-use Rattle.text.proofs.lines.Rows.{row_text, part_lines_lem, rows_asked, rows_are, offset_asked, row_stands, row-text}
+use Rattle.decimal.proofs.Runs.{left_all, left_room, left_next, left_done, room_as, wrote_as, texts_next, texts_end}
+use Rattle.text.proofs.lines.Rows.{part_lines_lem, rows_asked, rows_are, offset_asked, row_stands, row-text}
 use Rattle.text.proofs.lines.put_part.Goals as goal
 
 pub rows_in-rows-requires : goal.rows_in-rows-requires

@@ -1,13 +1,11 @@
 -- `text::lines::put_part` meets its contract: the lines of the rows that are left give the lines of all. Assumes nothing.
-use Prim.Native.Nat.{◌-◌, ◌<◌}
-use native.Mathlib.Omega.{arith}
+use Prim.Native.Nat.{◌-◌}
 use mathlib.Core.List.{[]}
-use mathlib.Core.Path.{sym}
 use lib.ListN.{length, get_or}
 use Rattle.paper.specs.Listing.{part_lines}
 use Rattle.index.specs.Index.{set_in}
-use Rattle.decimal.proofs.Runs.{Left, left_all, left_room, left_next, left_done, room_as, wrote_as, texts_from, texts_next, texts_end}
-use Rattle.text.proofs.lines.Rows.{row_text, part_lines_lem, rows_asked, rows_are, offset_asked, row_stands, row-text}
+use Rattle.decimal.proofs.Runs.{Left, texts_from}
+use Rattle.text.proofs.lines.Rows.{row_text}
 use Rattle.text.proofs.lines.put_part.Given as goal
 
 abbrev pub invariant-loop-s : goal.invariant-loop-s

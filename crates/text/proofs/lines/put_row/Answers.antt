@@ -1,5 +1,4 @@
 -- `text::lines::put_row` meets its contract: the numbers as they are read, the copies, the line feed. Assumes nothing.
-use borrow.Author.Rules.{rules}
 use native.Mathlib.Omega.{arith}
 use mathlib.Core.Path.{sym}
 use Rattle.decimal.proofs.Runs.{room_first, room_next, room_as, wrote_both, wrote_as}

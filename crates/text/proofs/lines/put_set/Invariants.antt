@@ -1,11 +1,10 @@
 -- `text::lines::put_set` meets its contract: the lines of the parts that are left give the lines of all. Assumes nothing.
-use Prim.Native.Nat.{◌-◌, ◌<◌}
-use native.Mathlib.Omega.{arith}
+use Prim.Native.Nat.{◌-◌}
 use lib.ListN.{length}
 use Rattle.paper.specs.Listing.{set_line_list}
 use Rattle.index.specs.Index.{set_in}
-use Rattle.decimal.proofs.Runs.{Left, left_all, left_room, left_next, left_done, texts_from, texts_next, texts_end}
-use Rattle.text.proofs.lines.Rows.{part_text, set_lines}
+use Rattle.decimal.proofs.Runs.{Left, texts_from}
+use Rattle.text.proofs.lines.Rows.{part_text}
 use Rattle.text.proofs.lines.put_set.Given as goal
 
 abbrev pub invariant-loop-p : goal.invariant-loop-p
