@@ -1,6 +1,6 @@
 /* Checks the image on standard input and prints what the check says.
 
-       gcc -Iinclude examples/check.c target/staticlib/libcomposthum.a -o check && ./check < examples/mesh-b.dmp */
+       gcc -Iinclude examples/check.c crates/composthum/out/libcomposthum.a -o check && ./check < examples/mesh-b.dmp */
 #include "composthum.h"
 #include <stdio.h>
 

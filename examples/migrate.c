@@ -5,7 +5,7 @@
        |1 \|
        1---2
 
-       gcc -Iinclude examples/migrate.c target/staticlib/libcomposthum.a -o migrate && ./migrate */
+       gcc -Iinclude examples/migrate.c crates/composthum/out/libcomposthum.a -o migrate && ./migrate */
 #include "composthum.h"
 #include <stdio.h>
 #include <string.h>

@@ -1,9 +1,12 @@
 // A program's arguments: the task, and numbers in decimal. Nothing here knows of meshes.
+#![tactic(auto)]
+
 ghost use Rattle.std.specs.Prelude.{◌≡◌};
 ghost use Rattle.laws.specs.Lists.{same as same_list};
 
 use decimal::reading::{Parsed, read_number};
-use libc::STDERR_FILENO;
+use std::env::FillError;
+use std::rt::Env;
 
 #[derive(Drop)]
 pub enum Task {
@@ -51,33 +54,53 @@ fn task_of(word: &[u8]) -> Task {
     Task::Unknown
 }
 
+// No task takes so many arguments.
+const MANY: usize = 8;
+
+fn is_given(rt: &HostRuntime, i: usize) -> bool {
+    match rt.arg(i, &mut []) {
+        Err(FillError::NotPresent) => false,
+        _ => true,
+    }
+}
+
+// How many arguments there are, the program's own name among them, as far as 8.
+pub fn given(rt: &HostRuntime) -> usize {
+    for i in 0..MANY {
+        if !is_given(rt, i) {
+            return i;
+        }
+    }
+    MANY
+}
+
 // What the first argument asks for. One that is missing, or longer than any task's name, is none.
-pub fn asked() -> Task {
+pub fn asked(rt: &HostRuntime) -> Task {
     let mut word = [0u8; 16];
-    let length = os::arg(1, &mut word);
+    let length = rt.arg(1, &mut word).unwrap_or(0);
     task_of(&word[..length])
 }
 
 // The number that argument i names; where it names none, the reason is on standard error.
-pub fn number(i: usize, name: &[u8]) -> Parsed {
-    let mut text = io::buffer();
-    let length = os::arg(i, &mut text);
+pub fn number(rt: &HostRuntime, i: usize, name: &[u8]) -> Parsed {
+    let mut text = [0u8; 4096];
+    let length = rt.arg(i, &mut text).unwrap_or(0);
     let parsed = read_number(&text[..length]);
     match parsed {
         Parsed::Number(n) => Parsed::Number(n),
         Parsed::Bad => {
-            io::write_all(STDERR_FILENO, b"composthum: ");
-            io::write_all(STDERR_FILENO, name);
-            io::write_all(STDERR_FILENO, b" is not a whole number below 4294967296\n");
+            let _ = rt.eprint("composthum: ");
+            let _ = rt.stderr().write_all(name);
+            let _ = rt.eprint(" is not a whole number below 4294967296\n");
             Parsed::Bad
         }
     }
 }
 
 // The reason for arguments that ask for nothing, and the status for it.
-pub fn usage(form: &[u8]) -> u64 {
-    io::write_all(STDERR_FILENO, b"usage: composthum ");
-    io::write_all(STDERR_FILENO, form);
-    io::write_all(STDERR_FILENO, b"\n");
+pub fn usage(rt: &HostRuntime, form: &[u8]) -> u64 {
+    let _ = rt.eprint("usage: composthum ");
+    let _ = rt.stderr().write_all(form);
+    let _ = rt.eprint("\n");
     2
 }

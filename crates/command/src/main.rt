@@ -1,49 +1,66 @@
 // The command: `check`, `list`, `lookup`, `box` and `migrate` on the image in a file. The answer is one line on standard output (a listing has more), the
-// reason of a failure one line on standard error. A program here has no exit status of its own: it writes the digit 0, 1 or 2 to descriptor 3,
-// and the script that runs it ends with it.
+// reason of a failure one line on standard error. The exit status of `./composthum` is the digit 0, 1 or 2 that the program writes to descriptor 3; its
+// own is 0.
+#![tactic(auto)]
+
 mod migration;
 mod room;
 mod tasks;
 
 use arguments::Task;
+use std::fs::OpenOptions;
+use std::io::Write;
 
 // The answer to the arguments, and its status: 0, 1 on a refusal, 2 where there was nothing to answer.
-fn answer() -> u64 {
-    let given = os::arg_count();
-    let task = arguments::asked();
+fn answer(rt: &HostRuntime) -> u64 {
+    let given = arguments::given(rt);
+    let task = arguments::asked(rt);
     match task {
         Task::Check => {
             if given != 3 {
-                return arguments::usage(b"check IMAGE");
+                return arguments::usage(rt, b"check IMAGE");
             }
         }
         Task::List => {
             if given != 3 {
-                return arguments::usage(b"list IMAGE");
+                return arguments::usage(rt, b"list IMAGE");
             }
         }
         Task::Lookup => {
             if given != 5 {
-                return arguments::usage(b"lookup IMAGE DIM NUMBER");
+                return arguments::usage(rt, b"lookup IMAGE DIM NUMBER");
             }
         }
         Task::Box => {
             if given != 4 {
-                return arguments::usage(b"box IMAGE PART");
+                return arguments::usage(rt, b"box IMAGE PART");
             }
         }
         Task::Migrate => {
             if given != 7 {
-                return arguments::usage(b"migrate IMAGE LIST OUT");
+                return arguments::usage(rt, b"migrate IMAGE LIST OUT");
             }
         }
         Task::Unknown => {
-            return arguments::usage(b"check | list | lookup | box | migrate | help");
+            return arguments::usage(rt, b"check | list | lookup | box | migrate | help");
         }
     }
-    tasks::on_image(task)
+    tasks::on_image(rt, task)
 }
 
-fn main() {
-    io::print_decimal(3, answer());
+// Writes the status to descriptor 3.
+fn tell(rt: &HostRuntime, status: u64) {
+    let digit: &[u8] = match status {
+        0 => b"0",
+        1 => b"1",
+        _ => b"2",
+    };
+    if let Ok(mut out) = OpenOptions::new().append(true).open(rt, "/dev/fd/3") {
+        let _ = out.write_all(digit);
+    }
+}
+
+fn main(rt: HostRuntime) {
+    let status = answer(&rt);
+    tell(&rt, status);
 }

@@ -13,41 +13,41 @@ fn dimension(n: u32) -> u8
     if n < 255 { n as u8 } else { 255 }
 }
 
-fn lookup(image: &[u8]) -> u64 {
-    let Parsed::Number(dim) = arguments::number(3, b"DIM") else {
+fn lookup(rt: &HostRuntime, image: &[u8]) -> u64 {
+    let Parsed::Number(dim) = arguments::number(rt, 3, b"DIM") else {
         return 2;
     };
-    let Parsed::Number(number) = arguments::number(4, b"NUMBER") else {
+    let Parsed::Number(number) = arguments::number(rt, 4, b"NUMBER") else {
         return 2;
     };
-    replies::found(query::lookup(image, dimension(dim), Number(number)))
+    replies::found(rt, query::lookup(image, dimension(dim), Number(number)))
 }
 
-fn box_of(image: &[u8]) -> u64 {
-    let Parsed::Number(part) = arguments::number(3, b"PART") else {
+fn box_of(rt: &HostRuntime, image: &[u8]) -> u64 {
+    let Parsed::Number(part) = arguments::number(rt, 3, b"PART") else {
         return 2;
     };
-    replies::boxed(query::box_of(image, Part(part)))
+    replies::boxed(rt, query::box_of(image, Part(part)))
 }
 
-fn answer(task: Task, image: &[u8]) -> u64 {
+fn answer(rt: &HostRuntime, task: Task, image: &[u8]) -> u64 {
     match task {
-        Task::Check => replies::checked(sound::check(image)),
-        Task::List => replies::listing(image),
-        Task::Lookup => lookup(image),
-        Task::Box => box_of(image),
-        Task::Migrate => migration::migrate(image),
+        Task::Check => replies::checked(rt, sound::check(image)),
+        Task::List => replies::listing(rt, image),
+        Task::Lookup => lookup(rt, image),
+        Task::Box => box_of(rt, image),
+        Task::Migrate => migration::migrate(rt, image),
         Task::Unknown => 2,
     }
 }
 
 // The answer about the image in the file that the second argument names, and its status.
-pub fn on_image(task: Task) -> u64 {
+pub fn on_image(rt: &HostRuntime, task: Task) -> u64 {
     let mut image = room::for_file();
-    let read = files::read_argument(2, &mut image);
+    let read = files::read_argument(rt, 2, &mut image);
     if !read.done {
         return 2;
     }
     let count = read.count;
-    answer(task, &image[..count])
+    answer(rt, task, &image[..count])
 }

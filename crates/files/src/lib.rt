@@ -1,7 +1,23 @@
 // Files by the arguments that name them, read whole and replaced whole. Nothing here knows of meshes.
-ghost use Rattle.io.specs.Counts.{IsPrefixLen};
+#![tactic(auto)]
 
-use libc::STDERR_FILENO;
+mod fresh;
+
+ghost use Rattle.files.specs.Counts.{IsPrefixLen};
+
+use std::env::FillError;
+use std::fs::{File, Permissions};
+use std::io::{Error, Write};
+use std::os::unix::fs::PermissionsExt;
+use std::rt::Env;
+use std::{fs, io, str};
+
+// The system's numbers for errors that are found here.
+const INVALID_ARGUMENT: i32 = 22;
+
+const NAME_TOO_LONG: i32 = 36;
+
+const NOT_TEXT: i32 = 84;
 
 // How many bytes stand at the front of the buffer, and whether they are the file (or as much of it as the buffer holds).
 #[derive(Drop)]
@@ -11,120 +27,173 @@ pub struct Read {
 }
 
 // Says on standard error that a file, or an argument, cannot be used, and why.
-fn fault(what: &[u8]) {
-    io::write_all(STDERR_FILENO, b"composthum: ");
-    os::fail(what);
+fn fault(rt: &HostRuntime, what: &[u8], why: &Error) {
+    let _ = rt.eprint("composthum: ");
+    reasons::fail(&rt.stderr(), what, why);
 }
 
 // Says why the read after the last one did not find the end of the file.
-fn unread(path: &[u8], more: isize) {
-    if more < 0 {
-        fault(path);
-        return;
+fn unread(rt: &HostRuntime, path: &[u8], more: &io::Result<usize>) {
+    match more {
+        Ok(_) => {
+            let _ = rt.eprint("composthum: ");
+            let _ = rt.stderr().write_all(path);
+            let _ = rt.eprint(": it changed while it was read\n");
+        }
+        Err(why) => fault(rt, path, why),
     }
-    io::write_all(STDERR_FILENO, b"composthum: ");
-    io::write_all(STDERR_FILENO, path);
-    io::write_all(STDERR_FILENO, b": it changed while it was read\n");
+}
+
+// Reads until the buffer is full, the input ends or a read fails.
+pub fn read_full<R: io::Read>(input: &mut R, buffer: &mut [u8]) -> usize
+    ensures { IsPrefixLen result buffer.new }
+{
+    let mut done = 0;
+    while done < buffer.len() {
+        match input.read(&mut buffer[done..]) {
+            Ok(0) => return done,
+            Ok(n) => done += n,
+            Err(_) => return done,
+        }
+    }
+    done
 }
 
 // Reads to the end of the file, or until the buffer is full. A read that fails and the end of the file look the same in the count, so one read
 // more tells them apart.
-fn fill(fd: i32, path: &[u8], buffer: &mut [u8]) -> Read
+fn fill(rt: &HostRuntime, file: &mut File, path: &[u8], buffer: &mut [u8]) -> Read
     ensures { IsPrefixLen result.count buffer.new }
 {
-    let count = io::read_full(fd, buffer);
+    let count = read_full(file, buffer);
     if count == buffer.len() {
-        return Read {
-            count: count,
-            done: true,
-        };
+        return Read { count, done: true };
     }
     let mut beyond = [0u8; 1];
-    let more = libc::read(fd, &mut beyond);
-    if more != 0 {
-        unread(path, more);
+    let more = io::Read::read(file, &mut beyond);
+    let done = match more {
+        Ok(0) => true,
+        _ => false,
+    };
+    if !done {
+        unread(rt, path, &more);
     }
-    Read {
-        count: count,
-        done: more == 0,
+    Read { count, done }
+}
+
+// The text of a path: std opens no other.
+fn text_of(path: &[u8]) -> io::Result<&str> {
+    match str::from_utf8(path) {
+        Ok(text) => Ok(text),
+        Err(_) => Err(Error::from_raw_os_error(NOT_TEXT)),
     }
+}
+
+fn open(rt: &HostRuntime, path: &[u8]) -> io::Result<File> {
+    fs::open(rt, text_of(path)?)
 }
 
 // The file at a path; where it cannot be read, the reason is on standard error.
-fn read_path(path: &[u8], buffer: &mut [u8]) -> Read
+fn read_path(rt: &HostRuntime, path: &[u8], buffer: &mut [u8]) -> Read
     ensures { IsPrefixLen result.count buffer.new }
 {
-    let fd = os::open_read(path);
-    if fd < 0 {
-        fault(path);
-        return Read {
-            count: 0,
-            done: false,
-        };
+    match open(rt, path) {
+        Ok(mut file) => fill(rt, &mut file, path, buffer),
+        Err(why) => {
+            fault(rt, path, &why);
+            Read {
+                count: 0,
+                done: false,
+            }
+        }
     }
-    let read = fill(fd, path, buffer);
-    libc::close(fd);
-    read
+}
+
+fn error_of(why: FillError) -> Error {
+    Error::from_raw_os_error(match why {
+        FillError::NotPresent => INVALID_ARGUMENT,
+        FillError::TooLong => NAME_TOO_LONG,
+    })
 }
 
 // The file that argument i names.
-pub fn read_argument(i: usize, buffer: &mut [u8]) -> Read
+pub fn read_argument(rt: &HostRuntime, i: usize, buffer: &mut [u8]) -> Read
     ensures { IsPrefixLen result.count buffer.new }
 {
-    let mut path = io::buffer();
-    let length = os::arg(i, &mut path);
-    if os::errno() != 0 {
-        fault(b"a path");
-        return Read {
-            count: 0,
-            done: false,
-        };
+    let mut path = [0u8; 4096];
+    match rt.arg(i, &mut path) {
+        Ok(length) => read_path(rt, &path[..length], buffer),
+        Err(why) => {
+            fault(rt, b"a path", &error_of(why));
+            Read {
+                count: 0,
+                done: false,
+            }
+        }
     }
-    read_path(&path[..length], buffer)
 }
 
 // All bytes in the file and on the disk, with the mode.
-fn store(fd: i32, mode: u32, bytes: &[u8]) -> bool {
-    if !io::write_all(fd, bytes) {
-        return false;
-    }
-    if libc::fchmod(fd, mode) != 0 {
-        return false;
-    }
-    libc::fsync(fd) == 0
+fn store(file: &mut File, mode: u32, bytes: &[u8]) -> io::Result<()> {
+    file.write_all(bytes)?;
+    file.set_permissions(Permissions::from_mode(mode))?;
+    file.sync_all()
 }
 
-// The bytes in a new file named `beside`, whose XXXXXX is replaced, and closed; or no such file.
-fn store_beside(beside: &mut [u8], mode: u32, bytes: &[u8]) -> bool {
-    let fd = os::create_temp(beside);
-    if fd < 0 {
-        return false;
+fn rename(rt: &HostRuntime, from: &[u8], to: &[u8]) -> io::Result<()> {
+    fs::rename(rt, text_of(from)?, text_of(to)?)
+}
+
+fn remove(rt: &HostRuntime, path: &[u8]) -> io::Result<()> {
+    fs::remove_file(rt, text_of(path)?)
+}
+
+// The bytes in the new file, which is then closed, and renamed.
+fn finish(
+    rt: &HostRuntime,
+    file: File,
+    beside: &[u8],
+    path: &[u8],
+    mode: u32,
+    bytes: &[u8],
+) -> io::Result<()> {
+    {
+        let mut file = file;
+        store(&mut file, mode, bytes)?;
     }
-    let stored = store(fd, mode, bytes);
-    if libc::close(fd) != 0 {
-        return false;
-    }
-    stored
+    rename(rt, beside, path)
 }
 
 // A new file with these bytes in place of the one at the path: a run that is stopped at any moment leaves the old file or the whole new one.
-// Where it cannot be done, the old one is left, and the reason is on standard error.
-fn replace(path: &[u8], beside: &mut [u8], mode: u32, bytes: &[u8]) -> bool {
-    if store_beside(beside, mode, bytes) {
-        if os::rename(beside, path) == 0 {
-            return true;
+// Where it cannot be done, the old one is left, and the reason is on standard error. The new file is named `beside`, whose XXXXXX is replaced.
+fn replace(rt: &HostRuntime, path: &[u8], beside: &mut [u8], mode: u32, bytes: &[u8]) -> bool {
+    let file = match fresh::create(rt, beside) {
+        Ok(file) => file,
+        Err(why) => {
+            fault(rt, path, &why);
+            return false;
+        }
+    };
+    match finish(rt, file, beside, path, mode, bytes) {
+        Ok(()) => true,
+        Err(why) => {
+            fault(rt, path, &why);
+            let _ = remove(rt, beside);
+            false
         }
     }
-    fault(path);
-    os::unlink(beside);
-    false
 }
 
 // The file that argument `out` names, replaced, by way of one beside it that argument `beside` names.
-pub fn replace_argument(out: usize, beside: usize, mode: u32, bytes: &[u8]) -> bool {
-    let mut path = io::buffer();
-    let length = os::arg(out, &mut path);
-    let mut name = io::buffer();
-    let size = os::arg(beside, &mut name);
-    replace(&path[..length], &mut name[..size], mode, bytes)
+pub fn replace_argument(
+    rt: &HostRuntime,
+    out: usize,
+    beside: usize,
+    mode: u32,
+    bytes: &[u8],
+) -> bool {
+    let mut path = [0u8; 4096];
+    let length = rt.arg(out, &mut path).unwrap_or(0);
+    let mut name = [0u8; 4096];
+    let size = rt.arg(beside, &mut name).unwrap_or(0);
+    replace(rt, &path[..length], &mut name[..size], mode, bytes)
 }
