@@ -30,8 +30,8 @@ fn same_name(image: &[u8], at: usize, to: usize) -> bool
 // Do they have equal kinds, values, residence sets and owners?
 fn same_fields(image: &[u8], at: usize, to: usize) -> bool
     requires at_in_bounds { (at + 48 ≤ length image.now) × (to + 48 ≤ length image.now) }
-    requires row_value_stands { RowValueStands (row_from image.now at) }
-    requires row_value_stands_2 { RowValueStands (row_from image.now to) }
+    requires at_stands { RowValueStands (row_from image.now at) }
+    requires to_stands { RowValueStands (row_from image.now to) }
     ensures { result ≡ are_same_fields (row_from image.now at) (row_from image.now to) }
 {
     let kind = field::byte_at(image, at + 6);
@@ -66,8 +66,8 @@ fn same_faces(
     dim: u32,
 ) -> bool
     requires dim_nonzero { 0 < dim }
-    requires shape_there { ShapeThere image.now keys.now here at dim }
-    requires shape_there_2 { ShapeThere image.now keys.now there to dim }
+    requires here_shape { ShapeThere image.now keys.now here at dim }
+    requires there_shape { ShapeThere image.now keys.now there to dim }
     ensures { result ≡ faces_agree image.now keys.now here at there to dim }
 {
     let count = dim as usize + 1;
@@ -93,8 +93,8 @@ fn same_shape(
     to: usize,
     dim: u32,
 ) -> bool
-    requires shape_there { ShapeThere image.now keys.now here at dim }
-    requires shape_there_2 { ShapeThere image.now keys.now there to dim }
+    requires here_shape { ShapeThere image.now keys.now here at dim }
+    requires there_shape { ShapeThere image.now keys.now there to dim }
     ensures { result ≡ shapes_agree image.now keys.now here at there to dim }
 {
     if dim == 0 {

@@ -66,7 +66,7 @@ pub fn write(
     out: &mut [u8],
 )
     requires prepared { Prepared image.now list.now offs.now starts.now ord.now ent.now masks.now counts.now n entities }
-    requires list_in_bounds { length (new_image image.now list.now) ≤ length out.old }
+    requires room { length (new_image image.now list.now) ≤ length out.old }
     ensures { out.new ≡ new_image image.now list.now ++ drop (length (new_image image.now list.now)) out.old }
 {
     let mut base = [0u32; paper::ROW_ENTRIES];

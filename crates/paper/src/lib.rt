@@ -5,7 +5,7 @@ ghost use Rattle.std.specs.Prelude.{◌≡◌};
 ghost use Rattle.paper.specs.Outcome.{nowhere, at_row, at_entry, refusal};
 ghost use Rattle.paper.specs.Sound.{number_of};
 ghost use Rattle.paper.specs.Move.{number_of_entry};
-ghost use Rattle.paper.specs.Box.{lesser as lesserOf, greater as greater_of, grow as grownBy};
+ghost use Rattle.paper.specs.Box.{lesser as lesser_of, greater as greater_of, grow as grown_by};
 
 // The limits of document 01: an image has at most 1,048,576 bytes and 64 parts. A row takes 48 bytes or more, up to 300 where it is in all
 // parts, so that an image has at most 21,845 rows. A table of rows has an entry more, and so has one of the parts' first rows.
@@ -55,7 +55,7 @@ pub struct Box {
 
 // The new value only where it is strictly beyond: on equal values the earlier bits stay.
 fn lesser(old: f64, new: f64) -> f64
-    ensures { result ≡ lesserOf old new }
+    ensures { result ≡ lesser_of old new }
 {
     if new < old { new } else { old }
 }
@@ -69,7 +69,7 @@ fn greater(old: f64, new: f64) -> f64
 impl Box {
     // The box grows by one vertex.
     pub fn grow(self, p: Point) -> Box
-        ensures { result ≡ grownBy self p }
+        ensures { result ≡ grown_by self p }
     {
         let least = self.least;
         let greatest = self.greatest;

@@ -68,7 +68,7 @@ fn lookup_in(
 // The coordinates of the vertex whose row is at `at`.
 fn point_at(image: &[u8], at: usize) -> Point
     requires at_in_bounds { at + 48 ≤ length image.now }
-    requires t { T (body_fitting 0 (row_from image.now at).body) }
+    requires fits { T (body_fitting 0 (row_from image.now at).body) }
     ensures { result ≡ point_of (row_from image.now at) }
 {
     let x = field::long_at(image, at + 24);
@@ -97,7 +97,7 @@ fn grown(extent: Extent, p: Point) -> Extent
 // The box so far, grown by the row at `at` where that is a vertex.
 fn with_row(extent: Extent, image: &[u8], at: usize) -> Extent
     requires at_in_bounds { at + 48 ≤ length image.now }
-    requires t { T (body_fitting (row_from image.now at).dim (row_from image.now at).body) }
+    requires fits { T (body_fitting (row_from image.now at).dim (row_from image.now at).body) }
     ensures { box_within result ≡ further (box_within extent) (vertices (row_from image.now at ∷ [])) }
 {
     if field::byte_at(image, at + 4) == 0 {

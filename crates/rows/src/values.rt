@@ -21,8 +21,8 @@ pub fn value_of(kind: u32, bits: u64) -> Value
 
 // Are two values equal in kind and bits?
 pub fn same_value(a: Value, b: Value) -> bool
-    requires plain { Plain a }
-    requires plain_2 { Plain b }
+    requires a_plain { Plain a }
+    requires b_plain { Plain b }
     ensures { result ≡ is_same_value a b }
 {
     match a {
@@ -46,8 +46,8 @@ pub fn same_value(a: Value, b: Value) -> bool
 
 // Do two kinds with their bits stand for one value?
 pub fn one_value(kind: u32, bits: u64, kind2: u32, bits2: u64) -> bool
-    requires value_stands { ValueStands kind bits }
-    requires value_stands_2 { ValueStands kind2 bits2 }
+    requires first_stands { ValueStands kind bits }
+    requires second_stands { ValueStands kind2 bits2 }
     ensures { result ≡ (eqb kind kind2 && eqb bits bits2) }
 {
     same_value(value_of(kind, bits), value_of(kind2, bits2))

@@ -217,7 +217,7 @@ fn put_row(
     at: usize,
 ) -> usize
     requires row_ready { RowReady image.now offs.now starts.now ord.now ent.now counts.now masks.now base.now slots.now q i }
-    requires i_in_bounds { at + length (row_bytes (new_row image.now offs.now starts.now ord.now ent.now counts.now masks.now base.now slots.now q i)) ≤ length out.old }
+    requires room { at + length (row_bytes (new_row image.now offs.now starts.now ord.now ent.now counts.now masks.now base.now slots.now q i)) ≤ length out.old }
     ensures { Put (row_bytes (new_row image.now offs.now starts.now ord.now ent.now counts.now masks.now base.now slots.now q i)) out.old out.new at result }
 {
     let mut row = [0u8; paper::ROW_BYTES];
@@ -249,7 +249,7 @@ fn put_rows(
     at: usize,
 ) -> usize
     requires part_ready { PartReady image.now offs.now starts.now ord.now ent.now counts.now masks.now base.now slots.now members.now first n q }
-    requires q_in_bounds { at + length (flat (map row_bytes (new_rows image.now offs.now starts.now ord.now ent.now counts.now masks.now base.now slots.now members.now first n q))) ≤ length out.old }
+    requires room { at + length (flat (map row_bytes (new_rows image.now offs.now starts.now ord.now ent.now counts.now masks.now base.now slots.now members.now first n q))) ≤ length out.old }
     ensures { Put (flat (map row_bytes (new_rows image.now offs.now starts.now ord.now ent.now counts.now masks.now base.now slots.now members.now first n q))) out.old out.new at result }
 {
     let mut k = 0;

@@ -21,7 +21,7 @@ returns-then-not-same_name c =
 
 pub same_fields-requires : goal.same_fields-requires
 same_fields-requires c =
-    record { at_in_bounds = (room_48 c.requires.ready ((stands c.requires.ready c.args.part.0 c.args.slot.0 _ c.requires.slot_in_bounds c.offset_of-from.ensures)), room_48 c.requires.ready ((stands c.requires.ready c.args.other.0 c.args.to.0 _ c.requires.to_in_bounds c.offset_of-at.ensures))); row_value_stands = value_stands c.requires.ready ((stands c.requires.ready c.args.part.0 c.args.slot.0 _ c.requires.slot_in_bounds c.offset_of-from.ensures)); row_value_stands_2 = value_stands c.requires.ready ((stands c.requires.ready c.args.other.0 c.args.to.0 _ c.requires.to_in_bounds c.offset_of-at.ensures)) }
+    record { at_in_bounds = (room_48 c.requires.ready ((stands c.requires.ready c.args.part.0 c.args.slot.0 _ c.requires.slot_in_bounds c.offset_of-from.ensures)), room_48 c.requires.ready ((stands c.requires.ready c.args.other.0 c.args.to.0 _ c.requires.to_in_bounds c.offset_of-at.ensures))); at_stands = value_stands c.requires.ready ((stands c.requires.ready c.args.part.0 c.args.slot.0 _ c.requires.slot_in_bounds c.offset_of-from.ensures)); to_stands = value_stands c.requires.ready ((stands c.requires.ready c.args.other.0 c.args.to.0 _ c.requires.to_in_bounds c.offset_of-at.ensures)) }
 
 pub returns-then-not-same_fields : goal.returns-then-not-same_fields
 returns-then-not-same_fields c =
@@ -47,7 +47,7 @@ pub same_shape-requires : goal.same_shape-requires
 same_shape-requires c =
     let name = c.same_name.ensures in
     let yes = not-false _ c.if-not-same_name.false-raw in
-    let dim = c.byte_at-dim.ensures.0 in record { shape_there = shape_there c.requires.ready ((stands c.requires.ready c.args.part.0 c.args.slot.0 _ c.requires.slot_in_bounds c.offset_of-from.ensures)) _ _ c.first_row-here.ensures (dim_here c.requires.ready ((stands c.requires.ready c.args.part.0 c.args.slot.0 _ c.requires.slot_in_bounds c.offset_of-from.ensures)) ((stands c.requires.ready c.args.other.0 c.args.to.0 _ c.requires.to_in_bounds c.offset_of-at.ensures)) _ name yes dim); shape_there_2 = shape_there c.requires.ready ((stands c.requires.ready c.args.other.0 c.args.to.0 _ c.requires.to_in_bounds c.offset_of-at.ensures)) _ _ c.first_row-there.ensures (dim_there c.requires.ready ((stands c.requires.ready c.args.part.0 c.args.slot.0 _ c.requires.slot_in_bounds c.offset_of-from.ensures)) ((stands c.requires.ready c.args.other.0 c.args.to.0 _ c.requires.to_in_bounds c.offset_of-at.ensures)) _ name yes dim) }
+    let dim = c.byte_at-dim.ensures.0 in record { here_shape = shape_there c.requires.ready ((stands c.requires.ready c.args.part.0 c.args.slot.0 _ c.requires.slot_in_bounds c.offset_of-from.ensures)) _ _ c.first_row-here.ensures (dim_here c.requires.ready ((stands c.requires.ready c.args.part.0 c.args.slot.0 _ c.requires.slot_in_bounds c.offset_of-from.ensures)) ((stands c.requires.ready c.args.other.0 c.args.to.0 _ c.requires.to_in_bounds c.offset_of-at.ensures)) _ name yes dim); there_shape = shape_there c.requires.ready ((stands c.requires.ready c.args.other.0 c.args.to.0 _ c.requires.to_in_bounds c.offset_of-at.ensures)) _ _ c.first_row-there.ensures (dim_there c.requires.ready ((stands c.requires.ready c.args.part.0 c.args.slot.0 _ c.requires.slot_in_bounds c.offset_of-from.ensures)) ((stands c.requires.ready c.args.other.0 c.args.to.0 _ c.requires.to_in_bounds c.offset_of-at.ensures)) _ name yes dim) }
 
 pub returns : goal.returns
 returns c =

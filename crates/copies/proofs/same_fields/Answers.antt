@@ -4,7 +4,7 @@ use Rattle.copies.proofs.same_fields.Goals as goal
 
 pub one_value-value-requires : goal.one_value-value-requires
 one_value-value-requires c =
-    let a = c.args in record { value_stands = value_read a.image.now a.at c.byte_at-kind.ensures.0 c.long_at-bits.ensures c.requires.row_value_stands; value_stands_2 = value_read a.image.now a.to c.byte_at-to_kind.ensures.0 c.long_at-to_bits.ensures c.requires.row_value_stands_2 }
+    let a = c.args in record { first_stands = value_read a.image.now a.at c.byte_at-kind.ensures.0 c.long_at-bits.ensures c.requires.at_stands; second_stands = value_read a.image.now a.to c.byte_at-to_kind.ensures.0 c.long_at-to_bits.ensures c.requires.to_stands }
 
 pub returns : goal.returns
 returns c =

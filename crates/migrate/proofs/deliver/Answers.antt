@@ -13,7 +13,7 @@ returns-then-bytes-out c =
 pub write-requires : goal.write-requires
 write-requires c =
     let sized = is_sized c.requires _ _ _ _ _ c.in-Fits.is in
-    record { prepared = sized.prepared; list_in_bounds = omega (arith, bytes_is _ _ sized.numbers, c.if-bytes-out.false) }
+    record { prepared = sized.prepared; room = omega (arith, bytes_is _ _ sized.numbers, c.if-bytes-out.false) }
 
 pub overflow_cast-result : goal.overflow_cast-result
 overflow_cast-result c =

@@ -21,18 +21,18 @@ fill_lists-requires c =
 pub put_head-requires : goal.put_head-requires
 put_head-requires c =
     let p = c.requires in
-    (omega (arith, head_there p.prepared, p.list_in_bounds), omega (arith, p.prepared.source.indexed.few))
+    (omega (arith, head_there p.prepared, p.room), omega (arith, p.prepared.source.indexed.few))
 
 pub put_parts-requires : goal.put_parts-requires
 put_parts-requires c =
     let P = c.requires.prepared in
     let bytes = bytes_all c.args.image.now (λ i. omega (arith, c.shared_slice_known-1.given i)) in
     let F = all-filled P c.fill_slots.ensures c.part_starts.ensures c.fill_lists.ensures in
-    parts_ready P bytes F c.args.out.now _ c.requires.list_in_bounds c.put_head.ensures
+    parts_ready P bytes F c.args.out.now _ c.requires.room c.put_head.ensures
 
 pub returns : goal.returns
 returns c =
     let P = c.requires.prepared in
     let bytes = bytes_all c.args.image.now (λ i. omega (arith, c.shared_slice_known-1.given i)) in
     let F = all-filled P c.fill_slots.ensures c.part_starts.ensures c.fill_lists.ensures in
-    image-put P bytes F c.args.out.now _ _ c.requires.list_in_bounds c.put_head.ensures c.put_parts.ensures
+    image-put P bytes F c.args.out.now _ _ c.requires.room c.put_head.ensures c.put_parts.ensures

@@ -44,7 +44,7 @@ with_row-extent-requires c =
     let pre = c.requires in
     let rows = part-rows pre.indexed args.part.0 c.if-n-part.false in
     let there : c.loop-s.s < length (get_or (set_in args.image.now) args.part.0 []) = omega (arith, rows, c.rows_in-rows.ensures, c.loop-s-test.true) in
-    record { at_in_bounds = omega (arith, c.offset_of-at.ensures, offset_there pre.indexed args.part.0 c.loop-s.s there); t = body_at pre.indexed args.part.0 _ there c.offset_of-at.ensures pre.passed }
+    record { at_in_bounds = omega (arith, c.offset_of-at.ensures, offset_there pre.indexed args.part.0 c.loop-s.s there); fits = body_at pre.indexed args.part.0 _ there c.offset_of-at.ensures pre.passed }
 
 pub loop-s-preserved : goal.loop-s-preserved
 loop-s-preserved c =

@@ -6,15 +6,15 @@ use Rattle.query.proofs.point_at.Goals as goal
 
 pub real-requires : goal.real-requires
 real-requires c =
-    ap finite c.long_at-x.ensures ∙ (finites c.args.image.now c.args.at c.requires.t).x
+    ap finite c.long_at-x.ensures ∙ (finites c.args.image.now c.args.at c.requires.fits).x
 
 pub real-requires-2 : goal.real-requires-2
 real-requires-2 c =
-    ap finite c.long_at-y.ensures ∙ (finites c.args.image.now c.args.at c.requires.t).y
+    ap finite c.long_at-y.ensures ∙ (finites c.args.image.now c.args.at c.requires.fits).y
 
 pub real-requires-3 : goal.real-requires-3
 real-requires-3 c =
-    ap finite c.long_at-z.ensures ∙ (finites c.args.image.now c.args.at c.requires.t).z
+    ap finite c.long_at-z.ensures ∙ (finites c.args.image.now c.args.at c.requires.fits).z
 
 pub returns : goal.returns
 returns c =

@@ -7,7 +7,7 @@ use Rattle.query.proofs.with_row.Goals as goal
 
 pub point_at-requires : goal.point_at-requires
 point_at-requires c =
-    record { at_in_bounds = c.requires.at_in_bounds; t = body_of_vertex (row_from c.args.image.now c.args.at) (omega (arith, row_dim c.args.image.now c.args.at)) c.requires.t }
+    record { at_in_bounds = c.requires.at_in_bounds; fits = body_of_vertex (row_from c.args.image.now c.args.at) (omega (arith, row_dim c.args.image.now c.args.at)) c.requires.fits }
 
 pub returns-then-byte_at-eq0 : goal.returns-then-byte_at-eq0
 returns-then-byte_at-eq0 c =

@@ -13,7 +13,7 @@ put_word-requires c =
 pub put_rows-requires : goal.put_rows-requires
 put_rows-requires c =
     let a = c.args in
-    record { part_ready = c.requires.part_ready; q_in_bounds = omega (arith, c.requires.part_room, part_length (new_rows a.image.now a.offs.now a.starts.now a.ord.now a.ent.now a.counts.now a.masks.now a.base.now a.slots.now a.members.now a.first a.count a.q)) }
+    record { part_ready = c.requires.part_ready; room = omega (arith, c.requires.part_room, part_length (new_rows a.image.now a.offs.now a.starts.now a.ord.now a.ent.now a.counts.now a.masks.now a.base.now a.slots.now a.members.now a.first a.count a.q)) }
 
 pub returns : goal.returns
 returns c =

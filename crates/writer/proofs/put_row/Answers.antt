@@ -11,12 +11,12 @@ use Rattle.writer.proofs.put_row.Goals as goal
 pub overflow_add-next : goal.overflow_add-next
 overflow_add-next c =
     let a = c.args in
-    omega (arith, c.count.ensures.0, c.well_formed.1.1.1.1.1.1.1.1.1.1.1.0.0, c.requires.i_in_bounds, row-length a.image.now a.offs.now a.starts.now a.ord.now a.ent.now a.counts.now a.masks.now a.base.now a.slots.now a.q a.i c.requires.row_ready)
+    omega (arith, c.count.ensures.0, c.well_formed.1.1.1.1.1.1.1.1.1.1.1.0.0, c.requires.room, row-length a.image.now a.offs.now a.starts.now a.ord.now a.ent.now a.counts.now a.masks.now a.base.now a.slots.now a.q a.i c.requires.row_ready)
 
 pub copy-requires : goal.copy-requires
 copy-requires c =
     let a = c.args in
-    (search rules, omega (arith, c.count.ensures.0, c.requires.i_in_bounds, row-length a.image.now a.offs.now a.starts.now a.ord.now a.ent.now a.counts.now a.masks.now a.base.now a.slots.now a.q a.i c.requires.row_ready))
+    (search rules, omega (arith, c.count.ensures.0, c.requires.room, row-length a.image.now a.offs.now a.starts.now a.ord.now a.ent.now a.counts.now a.masks.now a.base.now a.slots.now a.q a.i c.requires.row_ready))
 
 pub returns : goal.returns
 returns c =

@@ -7,7 +7,7 @@ use Rattle.writer.proofs.put_rows.Goals as goal
 pub loop-k-init : goal.loop-k-init
 loop-k-init c =
     let a = c.args in
-    rows_none a.image.now a.offs.now a.starts.now a.ord.now a.ent.now a.counts.now a.masks.now a.base.now a.slots.now a.q a.members.now a.first a.n c.requires.part_ready.listed a.out.now a.at c.requires.q_in_bounds
+    rows_none a.image.now a.offs.now a.starts.now a.ord.now a.ent.now a.counts.now a.masks.now a.base.now a.slots.now a.q a.members.now a.first a.n c.requires.part_ready.listed a.out.now a.at c.requires.room
 
 pub overflow_cast-i-in-loop-k : goal.overflow_cast-i-in-loop-k
 overflow_cast-i-in-loop-k c = omega (arith, c.shared_slice_known-in-loop-k-1.given (c.args.first + c.loop-k.k))
@@ -17,7 +17,7 @@ put_row-to-requires c =
     let a = c.args in
     let l = c.loop-k in
     let t = c.loop-k-test.true in
-    record { row_ready = c.requires.part_ready.row l.k t; i_in_bounds = rows-room a.image.now a.offs.now a.starts.now a.ord.now a.ent.now a.counts.now a.masks.now a.base.now a.slots.now a.q a.members.now a.first a.n c.requires.part_ready.listed a.out.now a.at l.out l.k l.to l.invariant t }
+    record { row_ready = c.requires.part_ready.row l.k t; room = rows-room a.image.now a.offs.now a.starts.now a.ord.now a.ent.now a.counts.now a.masks.now a.base.now a.slots.now a.q a.members.now a.first a.n c.requires.part_ready.listed a.out.now a.at l.out l.k l.to l.invariant t }
 
 pub loop-k-preserved : goal.loop-k-preserved
 loop-k-preserved c =

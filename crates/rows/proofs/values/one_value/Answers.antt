@@ -7,11 +7,11 @@ use Rattle.rows.proofs.values.one_value.Goals as goal
 pub same_value-requires : goal.same_value-requires
 same_value-requires c =
     let a = c.args in
-    record { plain = plain a.kind a.bits _ c.requires.value_stands c.value_of.ensures; plain_2 = plain a.kind2 a.bits2 _ c.requires.value_stands_2 c.value_of-2.ensures }
+    record { a_plain = plain a.kind a.bits _ c.requires.first_stands c.value_of.ensures; b_plain = plain a.kind2 a.bits2 _ c.requires.second_stands c.value_of-2.ensures }
 
 pub returns : goal.returns
 returns c =
     let a = c.args in
     c.same_value.ensures
-    ∙ values_compared a.kind a.bits a.kind2 a.bits2 _ _ c.requires.value_stands c.requires.value_stands_2 (omega arith) (omega arith)
+    ∙ values_compared a.kind a.bits a.kind2 a.bits2 _ _ c.requires.first_stands c.requires.second_stands (omega arith) (omega arith)
     c.value_of.ensures c.value_of-2.ensures
