@@ -40,6 +40,8 @@ FALLS_TOGETHER = {
     "valueFits": "value_fitting",
     "partBytes": "bytes_of_part",
 }
+# what port.py made of names with getD, which the library calls get_or now
+PORTED = {"get_d_map": "get_or_map", "get_d_sets": "get_or_sets", "get_d_words": "get_or_words"}
 # names of definitions of the library that stand in names of lemmas
 OF_LIBRARY = {"length", "map", "append", "take", "drop", "get_or", "set", "replicate", "reverse"}
 
@@ -90,7 +92,7 @@ def of_library():
 def snake(part):
     if part[:1].isupper():
         return part
-    part = part.replace("getD", "get_or")  # as the library has it now
+    part = part.replace("getD", "get_or")
     return re.sub(r"([a-z0-9])([A-Z])", lambda m: m.group(1) + "_" + m.group(2).lower(), part)
 
 
@@ -110,7 +112,7 @@ def renaming():
     new = {n: respelt(n, set() if n in of_specs else definitions) for n in names}
     kept = of_library()
     new = {a: b for a, b in new.items() if a != b and a not in kept}
-    new.update({a: b for a, b in FALLS_TOGETHER.items() if a in names})
+    new.update({a: b for a, b in {**FALLS_TOGETHER, **PORTED}.items() if a in names})
     wanted = collections.defaultdict(list)
     for a in sorted(new):
         wanted[new[a]].append(a)
@@ -147,7 +149,7 @@ def main():
             t = m.group(0)
             return t if made and "-" in t and text[: m.start()].endswith(".") else new.get(t, t)
 
-        out = TOKEN.sub(turn, text)
+        out = TOKEN.sub(turn, text).replace("ListN.get_or_map", "ListN.get_or-map")
         if out != text:
             with open(p, "w", encoding="utf-8") as f:
                 f.write(out)
