@@ -126,6 +126,9 @@ def renaming():
 
 
 def main():
+    if any(".Goals as goal" in read(p) for p in LAWS):
+        print("respell: these files are spelled as they are today, and the goals' names in them are not this script's: nothing is done", file=sys.stderr)
+        return 2
     new, left = renaming()
     if "--list" in sys.argv:
         for a in sorted(new):
