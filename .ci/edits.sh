@@ -203,6 +203,7 @@ take_out() { # FILE
 # is left is refused where the whole would be.
 take_tables() { # FOLDER KEPT
     local file
+    [ -d "$1/proofs" ] || return 0
     find "$1/proofs" -name '*.antt' | while IFS= read -r file; do
         ! is_table "$file" || [ "$file" = "$1/$2" ] || take_out "$file"
     done

@@ -3,87 +3,51 @@
 // whether there is one: coordinates, and images of every size, are compared through the C calls).
 #![tactic(auto)]
 
-use paper::{BoxAnswer, CheckAnswer, LookupAnswer, Number, Part, Refusal};
+use paper::{BoxAnswer, CheckAnswer, Home, LookupAnswer, Number, Part, Refusal, Sound};
+use std::fmt;
 
-fn show(rt: &HostRuntime, n: u64) {
-    let _ = rt.print(" ");
-    let _ = rt.print(n);
-}
+// A refusal's number and place, and 0 for each where there is none.
+#[derive(Clone, Copy)]
+struct Shown(Option<Refusal>);
 
-fn show_refusal(rt: &HostRuntime, r: Refusal) {
-    show(rt, r.number as u64);
-    show(rt, r.major as u64);
-    show(rt, r.minor as u64);
-}
-
-fn show_accepted(rt: &HostRuntime) {
-    show(rt, 0);
-    show(rt, 0);
-    show(rt, 0);
-}
-
-fn end_line(rt: &HostRuntime) {
-    let _ = rt.print("\n");
+impl fmt::Display for Shown {
+    fn fmt<W: fmt::Write>(&self, f: &mut fmt::Formatter<W>) -> fmt::Result {
+        match self.0 {
+            Some(r) => write!(f, "{} {} {}", r.number, r.major, r.minor),
+            None => f.write_str("0 0 0"),
+        }
+    }
 }
 
 fn show_check(rt: &HostRuntime, answer: CheckAnswer) {
-    let _ = rt.print("check");
-    match answer {
-        CheckAnswer::Refused(r) => {
-            show_refusal(rt, r);
-            show(rt, 0);
-            show(rt, 0);
-        }
-        CheckAnswer::Sound { parts, rows } => {
-            show_accepted(rt);
-            show(rt, parts as u64);
-            show(rt, rows as u64);
-        }
-    }
-    end_line(rt);
+    let (refusal, parts, rows) = match answer {
+        Err(r) => (Some(r), 0, 0),
+        Ok(Sound { parts, rows }) => (None, parts, rows),
+    };
+    let _ = println!(rt; "check {} {parts} {rows}", Shown(refusal));
 }
 
 fn show_lookup(rt: &HostRuntime, answer: LookupAnswer) {
-    let _ = rt.print("lookup");
-    match answer {
-        LookupAnswer::Refused(r) => {
-            show_refusal(rt, r);
-            show(rt, 0);
-            show(rt, 0);
-        }
-        LookupAnswer::Found { residence, owner } => {
-            show_accepted(rt);
-            show(rt, owner.0 as u64);
-            show(rt, residence);
-        }
-    }
-    end_line(rt);
+    let (refusal, owner, residence) = match answer {
+        Err(r) => (Some(r), 0, 0),
+        Ok(Home { residence, owner }) => (None, owner.0, residence),
+    };
+    let _ = println!(rt; "lookup {} {owner} {residence}", Shown(refusal));
 }
 
 fn show_box(rt: &HostRuntime, answer: BoxAnswer) {
-    let _ = rt.print("box");
-    match answer {
-        BoxAnswer::Refused(r) => {
-            show_refusal(rt, r);
-            show(rt, 0);
-        }
-        BoxAnswer::NoVertex => {
-            show_accepted(rt);
-            show(rt, 0);
-        }
-        BoxAnswer::Around(_) => {
-            show_accepted(rt);
-            show(rt, 1);
-        }
-    }
-    end_line(rt);
+    let (refusal, any) = match answer {
+        Err(r) => (Some(r), 0),
+        Ok(around) => (None, around.is_some() as u32),
+    };
+    let _ = println!(rt; "box {} {any}", Shown(refusal));
 }
 
 fn main(rt: HostRuntime) {
     let mut buffer = [0u8; 65548];
     let n = files::read_full(&mut rt.stdin(), &mut buffer);
     if n < 12 {
-        let _ = rt.print("no question\n");
+        let _ = println!(rt; "no question");
         return;
     }
     let dimension = buffer[0];

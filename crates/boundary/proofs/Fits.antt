@@ -14,7 +14,7 @@ use Rattle.laws.proofs.Members.{every_in, in_every, some_in, in_some, keep_in, i
 use Rattle.laws.proofs.Ascending.{asc_head}
 use Rattle.laws.proofs.Same.{same_eq, same_refl}
 use Rattle.laws.proofs.Increasing.{unions_in}
-use Rattle.boundary.specs.Boundary.{others, each_faced, faces_fit, hit}
+use Rattle.boundary.specs.Boundary.{others, each_faced, faces_fit}
 use Rattle.boundary.proofs.Pigeon.{no_other}
 use Rattle.boundary.proofs.Unions.{asc_unions, in_unions}
 use Rattle.laws.proofs.Keyed.{asc_ext}
@@ -83,15 +83,7 @@ faces_fit_lem vs fs h fit =
     both (eqb (length (unions fs)) (length vs)) (each_faced (unions fs) fs) (eq-eqb (length (unions fs)) (length vs) (ap length e))
     (subst (λ (l : List ℕ). T (each_faced l fs)) (sym e) (all_faced vs fs fit.faced))
 
--- ---- one of the faces, and one left out
-
-pub hit_in : (f : List ℕ) (fs : List (List ℕ)) → T (hit f fs) → In f fs
-unfolding hit
-hit_in f fs t = let w = some_in (same f) fs t in subst (λ (l : List ℕ). In l fs) (sym (same_eq f w.0 w.2)) w.1
-
-pub in_hit : (f : List ℕ) (fs : List (List ℕ)) → In f fs → T (hit f fs)
-unfolding hit
-in_hit f fs i = in_some (same f) fs f i (same_refl f)
+-- ---- one left out
 
 pub tail_out : (x : ℕ) (xs : List ℕ) (v : ℕ) → T (ascending (x ∷ xs)) → In v xs → others v (x ∷ xs) ≡ x ∷ others v xs
 unfolding keep

@@ -5,14 +5,15 @@ use mathlib.Core.Path.{◌≡◌, refl, sym, ap, ap₂, ◌∙◌, subst}
 use mathlib.Core.Bool.{Bool, true, false, ◌&&◌, and-true}
 use mathlib.Core.Logic.{inl, inr}
 use mathlib.Core.List.{List, [], ◌∷◌, map}
-use lib.ListN.{length, get_or, length-map}
+use lib.ListN.{length, get_or, drop, length-map}
 use lib.Dec.{T, ltb, leb, eqb, ltb→lt, leb→le, eqb→eq, eqb-suc-suc}
 use borrow.Author.Tests.{lt-ltb}
 use Rattle.laws.specs.Lists.{In, every, some?, same, pairwise, ascending, insert, merge, unions}
 use Rattle.laws.proofs.Tests.{and_l, and_r, split2, split8, T_true, true_T}
 use Rattle.laws.proofs.Members.{every_in}
 use Rattle.laws.proofs.Agree.{map_same, get_or_map, every-same, some_of_map, pairwise_of_map}
-use Rattle.laws.proofs.Ascending.{asc_head, asc_tail, asc_adjacent, asc_places, head_out}
+use Rattle.laws.proofs.Ascending.{asc_nil, asc_cons, asc_head, asc_tail, asc_adjacent, asc_places, head_out}
+use Rattle.field.specs.Bytes.{u32_at, words}
 use Rattle.part_set.specs.Masks.{has}
 use Rattle.paper.specs.Image.{Row, no_row, row_at}
 use Rattle.paper.specs.Mesh.{slots_of, ent_of, shape_of, simplex}
@@ -24,7 +25,6 @@ use Rattle.paper.specs.Sound.{judged}
 use Rattle.boundary.specs.Boundary.{others, each_faced, faces_fit, shares, faces_at, corners_below, faces_stand, face_keyed, faces_keyed, RowsThere, TrianglesThere, RowOf}
 use Rattle.rows.proofs.Laws.{part_there, part-rows}
 use Rattle.boundary.proofs.Fits.{faces_fit_lem, tail_out}
-use Rattle.boundary.proofs.Pairs.{asc_two}
 
 -- ---- slots that stand
 
@@ -74,6 +74,18 @@ one_each (x ∷ xs) t = ap (insert x) (one_each xs (asc_tail x xs t)) ∙ front 
 edge-vertices : (rows : List Row) (e : ℕ) → T (ascending (faces_at rows 1 e)) → slot_vertices 1 rows e ≡ faces_at rows 1 e
 unfolding slot_vertices
 edge-vertices rows e t = one_each (faces_at rows 1 e) t
+
+asc_two : (x y : ℕ) → x < y → T (ascending (x ∷ y ∷ []))
+asc_two x y h = asc_cons x (y ∷ []) below (asc_cons y [] (λ q i. absurd i) asc_nil)
+  where
+    below : (q : ℕ) → In q (y ∷ []) → x < q
+    below q (inl e) = omega arith
+    below q (inr i) = absurd i
+
+-- an edge names two
+ends : (rows : List Row) (s : ℕ) → (x : ℕ) × (y : ℕ) × (faces_at rows 1 s ≡ x ∷ y ∷ [])
+unfolding slots_of words
+ends rows s = let body = (get_or rows s no_row).body in (u32_at body 0, u32_at (drop 4 body) 0, refl)
 
 -- two vertices bound an edge
 ends_fit : (x y : ℕ) → x < y → T (faces_fit 2 ((x ∷ []) ∷ (y ∷ []) ∷ []))
@@ -178,14 +190,15 @@ module _ {b offs starts keys : List ℕ} {p s : ℕ} {k : ℕ} (r : RowOf k b of
       (faces_of_lem rows 2 s ∙ ap (faces_fit 4) (map_same (slot_vertices 2 rows) (corners_below rows) fs (λ f i. let w = stand_there rows 2 fs t f i in triangle_corners f w.0 w.1 (omega (arith, e)))))
       (sym (pairwise_of_map shares (faces_at rows 2) fs)))
 
-  pub edge_is : k ≡ 1 → (x y : ℕ) → faces_at rows 1 s ≡ x ∷ y ∷ [] → judged Boundary (set_in b) p s ≡ faces_stand rows 0 (faces_at rows 1 s)
+  pub edge_is : k ≡ 1 → judged Boundary (set_in b) p s ≡ faces_stand rows 0 (faces_at rows 1 s)
   unfolding slot_simplex slot_vertices
-  edge_is e x y at =
+  edge_is e =
       let fs = faces_at rows 1 s in
+      let w = ends rows s in
       itself 0 e ∙ guarded (faces_stand rows 0 fs) (slot_simplex rows 1 s) true (λ t.
       and-true (slot_faces rows 0 (slot_vertices 1 rows s) fs) ∙ faces_of_lem rows 0 s
-      ∙ T_true (faces_fit 2 (map (λ v. v ∷ []) fs)) (subst (λ (l : List ℕ). T (faces_fit 2 (map (λ v. v ∷ []) l))) (sym at)
-      (ends_fit x y (asc_head x (y ∷ []) (subst (λ (l : List ℕ). T (ascending l)) at (stand_ascends rows 0 fs t)) y (inl refl)))))
+      ∙ T_true (faces_fit 2 (map (λ v. v ∷ []) fs)) (subst (λ (l : List ℕ). T (faces_fit 2 (map (λ v. v ∷ []) l))) (sym w.2)
+      (ends_fit w.0 w.1 (asc_head w.0 (w.1 ∷ []) (subst (λ (l : List ℕ). T (ascending l)) w.2 (stand_ascends rows 0 fs t)) w.1 (inl refl)))))
       ∙ and-true (faces_stand rows 0 fs)
 
   -- nothing is asked of a vertex
@@ -214,8 +227,8 @@ module _ {b offs starts keys : List ℕ} {p s : ℕ} {k : ℕ} (r : RowOf k b of
 
   -- ---- what code reads: t, that the faces stand, and after that u, that they fit
 
-  pub edge-judged : k ≡ 1 → {x y : ℕ} → faces_at rows 1 s ≡ x ∷ y ∷ [] → faces_keyed starts keys p 0 (x ∷ y ∷ []) ≡ judged Boundary (set_in b) p s
-  edge-judged e {x} {y} at = keyed_is 0 (x ∷ y ∷ []) ∙ ap (faces_stand rows 0) (sym at) ∙ sym (edge_is e x y at)
+  pub edge_judged : k ≡ 1 → {fs : List ℕ} → faces_at rows 1 s ≡ fs → {t : Bool} → t ≡ faces_keyed starts keys p 0 fs → t ≡ judged Boundary (set_in b) p s
+  edge_judged e {fs} at keyed = keyed ∙ keyed_is 0 fs ∙ ap (faces_stand rows 0) (sym at) ∙ sym (edge_is e)
 
   module _ (d : ℕ) (fs : List ℕ) (at : faces_at rows (suc d) s ≡ fs) {t : Bool} (keyed : t ≡ faces_keyed starts keys p d fs) where
     stands : t ≡ faces_stand rows d (faces_at rows (suc d) s)

@@ -1,10 +1,11 @@
-pub mod Tests
-pub mod Unions
 pub mod Pigeon
+pub mod Unions
 pub mod Fits
-pub mod Pairs
-pub mod Triples
+pub mod Simplex
+pub mod Tests
 pub mod Reading
 pub mod Standing
 pub mod Judging
 pub mod Laws
+pub mod Extremes
+pub mod Filling

@@ -1,9 +1,11 @@
 -- The slots that a row of an indexed image names, as the words of its body. Assumes nothing.
-use Prim.Native.Nat.{ℕ, ◌+◌, ◌*◌, ◌≤◌, ◌<◌}
+use Prim.Native.Nat.{ℕ, suc, ◌+◌, ◌-◌, ◌*◌, ◌≤◌, ◌<◌}
 use native.Mathlib.Omega.{arith}
-use mathlib.Core.Path.{◌≡◌, refl, sym, ap, ◌∙◌}
-use mathlib.Core.List.{List, [], ◌∷◌}
+use mathlib.Core.Path.{◌≡◌, sym, ap, ◌∙◌}
+use mathlib.Core.List.{List, []}
 use lib.ListN.{length, get_or}
+use Rattle.std.proofs.lemmas.List.{ext_get_or}
+use Rattle.field.proofs.Reading.{length-words}
 use Rattle.field.specs.Bytes.{u32_at, words}
 use Rattle.paper.specs.Image.{Row, row_at}
 use Rattle.paper.specs.Mesh.{slots_of}
@@ -12,9 +14,9 @@ use Rattle.index.proofs.RowFields.{row_word}
 use Rattle.boundary.specs.Boundary.{faces_at, RowThere}
 use Rattle.rows.proofs.Laws.{part_there, row_there, offset_there}
 
-word_is : (b : List ℕ) (o k i j : ℕ) → i < k → k ≤ 6 → j ≡ 24 + 4 * i → {at x : ℕ} → at ≡ o → x ≡ u32_at b (at + j) → get_or (words k (row_from b o).body) i 0 ≡ x
-word_is b o k i j h few f {at} e read =
-    let g : o + 24 + 4 * i ≡ at + j = omega (arith, e, f) in
+word_is : (b : List ℕ) (o k i : ℕ) → i < k → k ≤ 6 → {at x : ℕ} → at ≡ o → x ≡ u32_at b (at + 24 + 4 * i) → get_or (words k (row_from b o).body) i 0 ≡ x
+word_is b o k i h few {at} e read =
+    let g : o + 24 + 4 * i ≡ at + 24 + 4 * i = omega (arith, e) in
     row_word b o k i h few ∙ ap (u32_at b) g ∙ sym read
 
 module _ {b offs starts : List ℕ} {p s : ℕ} (r : RowThere b offs starts p s) where
@@ -35,27 +37,14 @@ module _ {b offs starts : List ℕ} {p s : ℕ} (r : RowThere b offs starts p s)
     o : ℕ
     o = get_or offs (get_or starts p 0 + s) 0
 
-    pub pair_read : {x y : ℕ} → x ≡ u32_at b (at + 24) → y ≡ u32_at b (at + 28) → faces_at (get_or (set_in b) p []) 1 s ≡ x ∷ y ∷ []
-    unfolding slots_of words o
-    pair_read {x} {y} ex ey =
-        let f = word_is b o 2 0 24 (omega arith) (omega arith) refl e ex in
-        let g = word_is b o 2 1 28 (omega arith) (omega arith) refl e ey in
-        body_is 1 ∙ (λ i. f i ∷ g i ∷ [])
-
-    pub triple_read : {x y z : ℕ} → x ≡ u32_at b (at + 24) → y ≡ u32_at b (at + 28) → z ≡ u32_at b (at + 32) → faces_at (get_or (set_in b) p []) 2 s ≡ x ∷ y ∷ z ∷ []
-    unfolding slots_of words o
-    triple_read {x} {y} {z} ex ey ez =
-        let f = word_is b o 3 0 24 (omega arith) (omega arith) refl e ex in
-        let g = word_is b o 3 1 28 (omega arith) (omega arith) refl e ey in
-        let h = word_is b o 3 2 32 (omega arith) (omega arith) refl e ez in
-        body_is 2 ∙ (λ i. f i ∷ g i ∷ h i ∷ [])
-
-    pub quad_read : {w x y z : ℕ} → w ≡ u32_at b (at + 24) → x ≡ u32_at b (at + 28) → y ≡ u32_at b (at + 32) → z ≡ u32_at b (at + 36)
-        → faces_at (get_or (set_in b) p []) 3 s ≡ w ∷ x ∷ y ∷ z ∷ []
-    unfolding slots_of words o
-    quad_read {w} {x} {y} {z} ew ex ey ez =
-        let f = word_is b o 4 0 24 (omega arith) (omega arith) refl e ew in
-        let g = word_is b o 4 1 28 (omega arith) (omega arith) refl e ex in
-        let h = word_is b o 4 2 32 (omega arith) (omega arith) refl e ey in
-        let k = word_is b o 4 3 36 (omega arith) (omega arith) refl e ez in
-        body_is 3 ∙ (λ i. f i ∷ g i ∷ h i ∷ k i ∷ [])
+    -- the words of the body at a slot are those that are read
+    pub slots_read : {n : ℕ} → 2 ≤ n → n ≤ 4 → (ys : List ℕ) → length ys ≡ n → ((i : ℕ) → i < n → get_or ys i 0 ≡ u32_at b (at + 24 + 4 * i)) → faces_at (get_or (set_in b) p []) (n - 1) s ≡ ys
+    unfolding slots_of o
+    slots_read {n} low high ys l h =
+        let m = n - 2 in
+        let d : n ≡ suc (suc m) = omega arith in
+        let f : n - 1 ≡ suc m = omega arith in
+        let long = length-words n (row_from b o).body in
+        body_is (n - 1)
+        ∙ rw (f, ← d)
+        (ext_get_or 0 (words n (row_from b o).body) ys (long ∙ sym l) (λ i g. let k : i < n = omega (arith, g, long) in word_is b o n i k (omega arith) e (h i k)))

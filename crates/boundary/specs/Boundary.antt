@@ -1,26 +1,12 @@
 -- Rule 9 by slots: which rows a row names, by the tables of an image, and faces, each by its vertices, that bound one simplex.
 -- Assumes nothing.
-use Rattle.std.specs.Prelude.{ℕ, min, max, ◌+◌, ◌-◌, ◌/◌, ◌^◌, ◌≤◌, ◌<◌, ◌≡◌, Bool, not, ◌&&◌, List, [], ◌∷◌, map, length, get_or, T, eqb, ltb}
+use Rattle.std.specs.Prelude.{ℕ, ◌+◌, ◌-◌, ◌/◌, ◌^◌, ◌≤◌, ◌<◌, ◌≡◌, Bool, not, ◌&&◌, List, [], map, length, get_or, T, eqb, ltb}
 use Rattle.laws.specs.Lists.{In, every, some?, keep, same, unions, ascending, member}
 use Rattle.paper.specs.Image.{Row, no_row}
 use Rattle.paper.specs.Mesh.{slots_of}
 use Rattle.index.specs.Index.{set_in, Indexed, Named}
-use Rattle.boundary.specs.declared.Pair.{Pair}
-use Rattle.boundary.specs.declared.Triple.{Triple}
-use Rattle.boundary.specs.declared.Quad.{Quad}
 use Rattle.paper.specs.declared.Rule.TheVariants.{Fields, Order, Boundary}
 use Rattle.demands.specs.Passed.{Passed, PassedBefore}
-
--- ---- slots by twos, threes and fours
-
-abbrev pub two : Pair → List ℕ
-two p = p.a ∷ p.b ∷ []
-
-abbrev pub three : Triple → List ℕ
-three t = t.a ∷ t.b ∷ t.c ∷ []
-
-abbrev pub four : Quad → List ℕ
-four q = q.a ∷ q.b ∷ q.c ∷ q.d ∷ []
 
 -- ---- faces by their vertices
 
@@ -36,26 +22,24 @@ each_faced vs fs = every (λ v. some? (λ f. same f (others v vs)) fs) vs
 unfoldable pub faces_fit : ℕ → List (List ℕ) → Bool
 faces_fit k fs = eqb (length (unions fs)) k && each_faced (unions fs) fs
 
--- one of the faces is f
-unfoldable pub hit : List ℕ → List (List ℕ) → Bool
-hit f fs = some? (same f) fs
-
 -- two lists have a member in common
 unfoldable pub shares : List ℕ → List ℕ → Bool
 shares fs gs = some? (λ e. member e gs) fs
 
--- the only three vertices that three pairs can be the pairs of
-pub record PairsOf (p q r : Pair) (t : Triple) : Type 0 where
-  pub first : t.a ≡ min (min p.a q.a) r.a
-  pub second : t.b ≡ max (max p.a q.a) r.a
-  pub third : t.c ≡ max (max p.b q.b) r.b
+-- the least of the first vertices of n faces
+pub record LowestAt (fs : List (List ℕ)) (n v : ℕ) : Type 0 where
+  pub below : (i : ℕ) → i < n → v ≤ get_or (get_or fs i []) 0 0
+  pub greatest : (u : ℕ) → ((i : ℕ) → i < n → u ≤ get_or (get_or fs i []) 0 0) → u ≤ v
 
--- the only four that four triples can be the triples of
-pub record TriplesOf (p q r s : Triple) (v : Quad) : Type 0 where
-  pub first : v.a ≡ min (min p.a q.a) (min r.a s.a)
-  pub second : v.b ≡ max (max p.a q.a) (max r.a s.a)
-  pub third : v.c ≡ max (max p.b q.b) (max r.b s.b)
-  pub fourth : v.d ≡ max (max p.c q.c) (max r.c s.c)
+-- the greatest of their vertices at place k, and 0 where there are none
+pub record HighestAt (fs : List (List ℕ)) (n k v : ℕ) : Type 0 where
+  pub above : (i : ℕ) → i < n → get_or (get_or fs i []) k 0 ≤ v
+  pub least : (u : ℕ) → ((i : ℕ) → i < n → get_or (get_or fs i []) k 0 ≤ u) → v ≤ u
+
+-- the only vertices that n faces of m vertices can be those of one simplex of
+pub record CornersOf (fs : List (List ℕ)) (n m : ℕ) (vs : List ℕ) : Type 0 where
+  pub first : LowestAt fs n (get_or vs 0 0)
+  pub others : (k : ℕ) → k < m → HighestAt fs n k (get_or vs (k + 1) 0)
 
 -- ---- the rows of a part
 

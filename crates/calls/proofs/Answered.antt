@@ -6,9 +6,6 @@ use mathlib.Core.List.{List, ◌++◌}
 use lib.ListN.{length, take, drop}
 use lib.Seq.{take_at}
 use Rattle.paper.specs.declared.Refusal.{Refusal}
-use Rattle.paper.specs.declared.CheckAnswer.TheVariants as check
-use Rattle.paper.specs.declared.MigrateAnswer.{MigrateAnswer}
-use Rattle.paper.specs.declared.MigrateAnswer.TheVariants as migrate
 use Rattle.paper.specs.Outcome.{Outcome, refused, accepted, answered, ◌>>=◌}
 use Rattle.paper.specs.Image.{Set, row_total}
 use Rattle.paper.specs.Sound.{Checked, sound_of, check_of}
@@ -21,6 +18,8 @@ use Rattle.paper.proofs.Injective.{migrate_one}
 use Rattle.demands.specs.History.{answer}
 use Rattle.demands.proofs.Theorems.Statements.{Accepts}
 use Rattle.calls.specs.Calls.{Call, CallKept, image_left, held, ask, set_or, set_held}
+use Rattle.std.specs.Prelude.{Err}
+use Rattle.paper.specs.Given.{MigrateAnswer, sound_answer_of, moved_answer_of}
 
 -- ---- what check accepts: its set, and the numbers that check answers
 
@@ -38,7 +37,7 @@ pub set_accepted : (b : List ℕ) → (S : Set) × Accepts b S → Accepts b (se
 set_accepted b w = subst (Accepts b) (sym (set_is b w.0 w.1)) w.1
 
 -- an image for which check answers Sound is one that the definitions accept
-pub sound_answer : (b : List ℕ) (parts rows : ℕ) → Checks b (check.Sound parts rows) → SoundSet b parts rows
+pub sound_answer : (b : List ℕ) (parts rows : ℕ) → Checks b (sound_answer_of parts rows) → SoundSet b parts rows
 unfolding check_of
 sound_answer b parts rows k =
     let w = bind_inv (sound_of b) _ _ (sym k.answer) in
@@ -51,7 +50,7 @@ sound_answer b parts rows k =
     }
 
 -- and back
-pub answer_sound : (b : List ℕ) (S : Set) → Accepts b S → Checks b (check.Sound (length S) (row_total S))
+pub answer_sound : (b : List ℕ) (S : Set) → Accepts b S → Checks b (sound_answer_of (length S) (row_total S))
 unfolding check_of ◌>>=◌
 answer_sound b S a = record { answer = sym (ap (λ (o : Outcome Set). o >>= λ S. accepted (record { parts = length S; rows = row_total S })) a) }
 
@@ -67,7 +66,7 @@ pub record Moves (b : List ℕ) (c : Call) (n rows objects : ℕ) : Type 0 where
   pub output : c.out' ≡ held b c ++ drop n c.out
 
 module _ (b : List ℕ) (c : Call) (k : CallKept b c) where
-  pub call_moved : (n rows objects : ℕ) → c.answer ≡ migrate.Moved n rows objects → Moves b c n rows objects
+  pub call_moved : (n rows objects : ℕ) → c.answer ≡ moved_answer_of n rows objects → Moves b c n rows objects
   unfolding answered sizes_of out_after image_left
   call_moved n rows objects is = go (answer b (ask c)) refl (sym (ap migrate_answer is) ∙ k.answer) k.output
     where
@@ -87,15 +86,15 @@ module _ (b : List ℕ) (c : Call) (k : CallKept b c) where
           }
 
   -- where the paper accepts, the call answers its numbers and the caller holds its image
-  pub call_moves : (m : Migrated) → answer b (ask c) ≡ accepted m → (c.answer ≡ migrate.Moved (length m.image) m.rows m.objects_moved) × (held b c ≡ m.image)
+  pub call_moves : (m : Migrated) → answer b (ask c) ≡ accepted m → (c.answer ≡ moved_answer_of (length m.image) m.rows m.objects_moved) × (held b c ≡ m.image)
   unfolding answered sizes_of
   call_moves m e =
-      let is = migrate_one c.answer (migrate.Moved (length m.image) m.rows m.objects_moved) (k.answer ∙ ap (answered sizes_of) e) in
+      let is = migrate_one c.answer (moved_answer_of (length m.image) m.rows m.objects_moved) (k.answer ∙ ap (answered sizes_of) e) in
       (is, ap (λ (x : Migrated). x.image) (accepted_inj (sym (call_moved (length m.image) m.rows m.objects_moved is).outcome ∙ e)))
 
   -- ---- a call that was refused
 
-  pub call_refused : (r : Refusal) → c.answer ≡ migrate.Refused r → answer b (ask c) ≡ refused r.number (place_of r)
+  pub call_refused : (r : Refusal) → c.answer ≡ Err r → answer b (ask c) ≡ refused r.number (place_of r)
   unfolding answered
   call_refused r is = go (answer b (ask c)) (sym (ap migrate_answer is) ∙ k.answer)
     where

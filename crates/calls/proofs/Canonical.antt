@@ -6,7 +6,6 @@ use mathlib.Core.List.{List}
 use lib.ListN.{length}
 use lib.Dec.{T}
 use lib.Pow.{are_bytes}
-use Rattle.paper.specs.declared.CheckAnswer.TheVariants as check
 use Rattle.paper.specs.Image.{Set, image_of, row_total}
 use Rattle.paper.specs.Mesh.{Entity, Parts, mesh_of}
 use Rattle.paper.specs.Sound.{max_image}
@@ -18,8 +17,9 @@ use Rattle.demands.proofs.Theorems.T2.{theorem_2}
 use Rattle.demands.proofs.Theorems.T3.{theorem_3}
 use Rattle.calls.specs.Calls.{set_held, mesh_held, places_held}
 use Rattle.calls.proofs.Answered.{set_is, sound_answer, answer_sound}
+use Rattle.paper.specs.Given.{sound_answer_of}
 
-pub sound_is_canonical : (b : List ℕ) (parts rows : ℕ) → T (are_bytes b) → Checks b (check.Sound parts rows)
+pub sound_is_canonical : (b : List ℕ) (parts rows : ℕ) → T (are_bytes b) → Checks b (sound_answer_of parts rows)
     → (b ≡ image_for parts (mesh_held b) (places_held b)) × WellPlaced parts (mesh_held b) (places_held b)
 unfolding image_for
 sound_is_canonical b parts rows y k =
@@ -29,9 +29,9 @@ sound_is_canonical b parts rows y k =
     (t.bytes ∙ ap (λ (ps : Parts). image_of (rows_for ps)) t.parts, t.fits)
 
 module _ (n : ℕ) (es : List Entity) (place : Placement) (fits : WellPlaced n es place) (small : length (image_for n es place) ≤ max_image) where
-  pub canonical_is_sound : Checks (image_for n es place) (check.Sound n (row_total (rows_for (spread n es place))))
+  pub canonical_is_sound : Checks (image_for n es place) (sound_answer_of n (row_total (rows_for (spread n es place))))
   canonical_is_sound =
-      subst (λ (p : ℕ). Checks (image_for n es place) (check.Sound p (row_total (rows_for (spread n es place))))) (theorem_3 n es place fits small).count
+      subst (λ (p : ℕ). Checks (image_for n es place) (sound_answer_of p (row_total (rows_for (spread n es place))))) (theorem_3 n es place fits small).count
       (answer_sound (image_for n es place) (rows_for (spread n es place)) (theorem_2 n es place fits small))
 
   pub canonical_holds : (mesh_held (image_for n es place) ≡ es) × (places_of es (places_held (image_for n es place)) ≡ places_of es place)

@@ -12,8 +12,6 @@ use lib.Dec.{T}
 use lib.Pow.{are_bytes}
 use Rattle.laws.specs.Lists.{In}
 use Rattle.part_set.specs.Masks.{others, parts_in}
-use Rattle.paper.specs.declared.CheckAnswer.TheVariants as check
-use Rattle.paper.specs.declared.MigrateAnswer.TheVariants as migrate
 use Rattle.paper.specs.Image.{row_at, row_total}
 use Rattle.paper.specs.Mesh.{Entity, name, is_object, owner_among}
 use Rattle.paper.specs.Sound.{name_of_row, resides_well}
@@ -28,11 +26,12 @@ use Rattle.demands.proofs.Theorems.Statements.{Accepts, OnlyIn, Iff}
 use Rattle.demands.proofs.Theorems.Demand2 as theorem
 use Rattle.calls.specs.Calls.{Call, CallKept, held, set_held, parts_held, mesh_held, places_held}
 use Rattle.calls.proofs.Answered.{outcome_by, Moves, set_accepted, sound_answer, answer_sound, call_moved}
+use Rattle.paper.specs.Given.{sound_answer_of, moved_answer_of}
 
 -- ---- what a call that moved has written
 
-module _ (b : List ℕ) (parts rows : ℕ) (y : T (are_bytes b)) (k : Checks b (check.Sound parts rows))
-    (c : Call) (kept : CallKept b c) (n rows' objects : ℕ) (is : c.answer ≡ migrate.Moved n rows' objects) where
+module _ (b : List ℕ) (parts rows : ℕ) (y : T (are_bytes b)) (k : Checks b (sound_answer_of parts rows))
+    (c : Call) (kept : CallKept b c) (n rows' objects : ℕ) (is : c.answer ≡ moved_answer_of n rows' objects) where
   a : Accepts b (set_held b)
   a = (sound_answer b parts rows k).accepts
 
@@ -74,9 +73,9 @@ module _ (b : List ℕ) (parts rows : ℕ) (y : T (are_bytes b)) (k : Checks b (
   pub writes_bytes : T (are_bytes (held b c))
   writes_bytes = theorem.writes_bytes b (set_held b) c.list (length c.out) (length c.work) (outcome_by b c rows' objects) y a call.outcome
 
-  pub writes_accepted_image : Checks (held b c) (check.Sound parts rows')
+  pub writes_accepted_image : Checks (held b c) (sound_answer_of parts rows')
   writes_accepted_image =
-      subst (Checks (held b c)) (ap₂ check.Sound (part_count ∙ (sound_answer b parts rows k).count) (sym row_count))
+      subst (Checks (held b c)) (ap₂ sound_answer_of (part_count ∙ (sound_answer b parts rows k).count) (sym row_count))
       (answer_sound (held b c) (set_held (held b c)) a')
 
   -- "each partition object takes its listed destination": it is in that part and in no other
@@ -119,7 +118,7 @@ module _ (b : List ℕ) (parts rows : ℕ) (y : T (are_bytes b)) (k : Checks b (
 
 -- ---- two images for which check answers Sound with one part count
 
-module _ (b b' : List ℕ) (parts rows rows' : ℕ) (y : T (are_bytes b)) (y' : T (are_bytes b')) (k : Checks b (check.Sound parts rows)) (k' : Checks b' (check.Sound parts rows')) where
+module _ (b b' : List ℕ) (parts rows rows' : ℕ) (y : T (are_bytes b)) (y' : T (are_bytes b')) (k : Checks b (sound_answer_of parts rows)) (k' : Checks b' (sound_answer_of parts rows')) where
   -- that hold the same rows in the same parts, in any order, are the same bytes
   pub same_rows_same_bytes : ((p : ℕ) (f : Entity) → Iff (In f (get_or (parts_held b) p [])) (In f (get_or (parts_held b') p []))) → b ≡ b'
   same_rows_same_bytes =
@@ -133,7 +132,7 @@ same_bytes_same_rows b b' e = ap set_held e
 
 -- ---- an image for which check answers Sound
 
-module _ (b : List ℕ) (parts rows : ℕ) (y : T (are_bytes b)) (k : Checks b (check.Sound parts rows)) where
+module _ (b : List ℕ) (parts rows : ℕ) (y : T (are_bytes b)) (k : Checks b (sound_answer_of parts rows)) where
   -- order, slots, residence sets and owners follow from the entities of each part
   pub rows_from_parts : set_held b ≡ rows_for (parts_held b)
   rows_from_parts = theorem.rows_from_parts b (set_held b) y (sound_answer b parts rows k).accepts

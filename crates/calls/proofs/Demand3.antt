@@ -14,10 +14,6 @@ use lib.Pow.{are_bytes}
 use Rattle.laws.specs.Lists.{In}
 use Rattle.part_set.specs.Masks.{others}
 use Rattle.paper.specs.declared.Refusal.{Refusal}
-use Rattle.paper.specs.declared.CheckAnswer.{CheckAnswer}
-use Rattle.paper.specs.declared.CheckAnswer.TheVariants as check
-use Rattle.paper.specs.declared.MigrateAnswer.{MigrateAnswer}
-use Rattle.paper.specs.declared.MigrateAnswer.TheVariants as migrate
 use Rattle.paper.specs.Image.{image_of, row_at, row_total}
 use Rattle.paper.specs.Mesh.{Entity, Parts, name, bounds, is_object}
 use Rattle.paper.specs.Placement.{Placement, rows_for, places_of, image_for}
@@ -36,8 +32,10 @@ use Rattle.demands.proofs.Results.Unique.{checks_one}
 use Rattle.calls.specs.Calls.{Call, image_left, Run, held_after, place_left, places_after, ask, asks, set_held, parts_held, mesh_held, places_held}
 use Rattle.calls.proofs.Answered.{outcome_by, set_accepted, sound_answer, answer_sound, call_moved}
 use Rattle.calls.proofs.Runs.{run_is_history, run_places, held_then, places_then, run_none, run_then, asks_then}
+use Rattle.std.specs.Prelude.{Err}
+use Rattle.paper.specs.Given.{CheckAnswer, MigrateAnswer, sound_answer_of, moved_answer_of}
 
-module _ (b : List ℕ) (parts rows : ℕ) (y : T (are_bytes b)) (k : Checks b (check.Sound parts rows)) where
+module _ (b : List ℕ) (parts rows : ℕ) (y : T (are_bytes b)) (k : Checks b (sound_answer_of parts rows)) where
   first : Accepts b (set_held b)
   first = (sound_answer b parts rows k).accepts
 
@@ -47,14 +45,14 @@ module _ (b : List ℕ) (parts rows : ℕ) (y : T (are_bytes b)) (k : Checks b (
         (set_accepted (history b (asks cs)) (theorem.history_accepted b (set_held b) y first (asks cs)))
 
     -- the image held is one that the checker accepts, of the same part count
-    pub run_accepted : Checks (held_after b cs) (check.Sound parts (row_total (set_held (held_after b cs))))
+    pub run_accepted : Checks (held_after b cs) (sound_answer_of parts (row_total (set_held (held_after b cs))))
     run_accepted =
-        subst (λ (n : ℕ). Checks (held_after b cs) (check.Sound n (row_total (set_held (held_after b cs)))))
+        subst (λ (n : ℕ). Checks (held_after b cs) (sound_answer_of n (row_total (set_held (held_after b cs)))))
         (theorem.part_count_unchanged b (set_held b) y first (asks cs) (set_held (held_after b cs)) ends ∙ (sound_answer b parts rows k).count)
         (answer_sound (held_after b cs) (set_held (held_after b cs)) (subst (λ (x : List ℕ). Accepts x (set_held (held_after b cs))) (sym (run_is_history b cs r)) ends))
 
     -- so that is what `check` answers of it
-    pub run_checked : (q : CheckAnswer) → Checks (held_after b cs) q → q ≡ check.Sound parts (row_total (set_held (held_after b cs)))
+    pub run_checked : (q : CheckAnswer) → Checks (held_after b cs) q → q ≡ sound_answer_of parts (row_total (set_held (held_after b cs)))
     run_checked q kept = checks_one kept run_accepted
 
     pub run_bytes : T (are_bytes (held_after b cs))
@@ -116,7 +114,7 @@ module _ (b : List ℕ) (parts rows : ℕ) (y : T (are_bytes b)) (k : Checks b (
   first_part o p i t j = ap (λ (place : Placement). place (name o)) (run_places b [] (places_held b) (run_none b)) ∙ theorem.first_part b (set_held b) y first o p i t j
 
   -- after a call that moved and has an entry that names it, that entry's part
-  pub last_destination : (cs : List Call) (c : Call) → Run b (cs ++ (c ∷ [])) → (n rows' objects : ℕ) → c.answer ≡ migrate.Moved n rows' objects
+  pub last_destination : (cs : List Call) (c : Call) → Run b (cs ++ (c ∷ [])) → (n rows' objects : ℕ) → c.answer ≡ moved_answer_of n rows' objects
       → (o i : ℕ) → i < all_entries c.list → entry_name c.list i ≡ o → places_after (cs ++ (c ∷ [])) (places_held b) o ≡ entry_part c.list i
   last_destination cs c r n rows' objects is o i h named =
       let w = run_then b cs c r in
@@ -125,23 +123,23 @@ module _ (b : List ℕ) (parts rows : ℕ) (y : T (are_bytes b)) (k : Checks b (
       (ap (λ (x : List ℕ). answer x (ask c)) (sym (run_is_history b cs w.0)) ∙ (call_moved (held_after b cs) c w.1 n rows' objects is).outcome) o i h named
 
 -- after one that moved and does not name it, as before
-pub not_named : (cs : List Call) (c : Call) (place : Placement) (n rows objects : ℕ) → c.answer ≡ migrate.Moved n rows objects
+pub not_named : (cs : List Call) (c : Call) (place : Placement) (n rows objects : ℕ) → c.answer ≡ moved_answer_of n rows objects
     → (o : ℕ) → ((i : ℕ) → i < all_entries c.list → entry_name c.list i ≡ o → ⊥) → places_after (cs ++ (c ∷ [])) place o ≡ places_after cs place o
 unfolding place_left
 not_named cs c place n rows objects is o free =
     ap (λ (new : Placement). new o) (places_then cs c place ∙ ap (place_left c.list (places_after cs place)) is) ∙ moved_unlisted c.list (places_after cs place) o free
 
 -- after one that was refused, as before
-pub not_accepted : (cs : List Call) (c : Call) (place : Placement) (r : Refusal) → c.answer ≡ migrate.Refused r → places_after (cs ++ (c ∷ [])) place ≡ places_after cs place
+pub not_accepted : (cs : List Call) (c : Call) (place : Placement) (r : Refusal) → c.answer ≡ Err r → places_after (cs ++ (c ∷ [])) place ≡ places_after cs place
 unfolding place_left
 not_accepted cs c place r is = places_then cs c place ∙ ap (place_left c.list (places_after cs place)) is
 
 -- ---- the image held, call by call
 
-pub accepted_call : (b : List ℕ) (cs : List Call) (c : Call) (n rows objects : ℕ) → c.answer ≡ migrate.Moved n rows objects → held_after b (cs ++ (c ∷ [])) ≡ take n c.out'
+pub accepted_call : (b : List ℕ) (cs : List Call) (c : Call) (n rows objects : ℕ) → c.answer ≡ moved_answer_of n rows objects → held_after b (cs ++ (c ∷ [])) ≡ take n c.out'
 unfolding image_left
 accepted_call b cs c n rows objects is = held_then b cs c ∙ ap (λ (a : MigrateAnswer). image_left (held_after b cs) a c.out') is
 
-pub refused_call : (b : List ℕ) (cs : List Call) (c : Call) (r : Refusal) → c.answer ≡ migrate.Refused r → held_after b (cs ++ (c ∷ [])) ≡ held_after b cs
+pub refused_call : (b : List ℕ) (cs : List Call) (c : Call) (r : Refusal) → c.answer ≡ Err r → held_after b (cs ++ (c ∷ [])) ≡ held_after b cs
 unfolding image_left
 refused_call b cs c r is = held_then b cs c ∙ ap (λ (a : MigrateAnswer). image_left (held_after b cs) a c.out') is

@@ -13,10 +13,6 @@ use lib.Pow.{are_bytes}
 use Rattle.laws.specs.Lists.{In, flat, first_or, some?}
 use Rattle.field.specs.Bytes.{u8_at, u32_at}
 use Rattle.part_set.specs.Masks.{has, parts_in}
-use Rattle.paper.specs.declared.CheckAnswer.TheVariants as check
-use Rattle.paper.specs.declared.MigrateAnswer.TheVariants as migrate
-use Rattle.paper.specs.declared.LookupAnswer.{LookupAnswer}
-use Rattle.paper.specs.declared.LookupAnswer.TheVariants as lookup
 use Rattle.paper.specs.Outcome.{Outcome, refused, accepted, nowhere, must, ◌>>=◌, ◌>>◌}
 use Rattle.paper.specs.Image.{Row, Set, no_row, row_at, row_total}
 use Rattle.paper.specs.Mesh.{Entity, Parts, name_of, name, is_object, holds, owner_among, ent_of, parts_of}
@@ -47,6 +43,8 @@ use Rattle.calls.proofs.Answered.{SoundSet, sound_answer}
 use Rattle.calls.proofs.Runs.{run_then}
 use Rattle.calls.proofs.Demand2.{entry_lands}
 use Rattle.calls.proofs.Demand3.{run_accepted, run_bytes, mesh_unchanged, object_in_one_part, last_destination}
+use Rattle.std.specs.Prelude.{Err}
+use Rattle.paper.specs.Given.{LookupAnswer, sound_answer_of, moved_answer_of, found_answer_of}
 
 -- the residence set and the owner that the parts give to a name
 abbrev home_in : Parts → ℕ → Found
@@ -143,12 +141,12 @@ module _ (b : List ℕ) (S : Set) (y : T (are_bytes b)) (a : Accepts b S) where
 -- r answers that an entity named k lives in exactly the parts of ps that hold it, and that the poorest of these owns it
 pub record FoundWhereHeld (ps : Parts) (parts k : ℕ) (r : LookupAnswer) : Type 0 where
   pub residence : ℕ
-  pub answer : r ≡ lookup.Found residence (record { 0 = owner_among ps (parts_in residence) })
+  pub answer : r ≡ found_answer_of residence (record { 0 = owner_among ps (parts_in residence) })
   pub exact : (p : ℕ) → p < parts → has residence p ≡ holds (get_or ps p []) k
   pub no_more : residence < 2 ^ parts
   pub poorest : Poorest ps (parts_in residence) (owner_among ps (parts_in residence))
 
-module _ (b : List ℕ) (parts rows : ℕ) (y : T (are_bytes b)) (k : Checks b (check.Sound parts rows)) (cs : List Call) (run : Run b cs) where
+module _ (b : List ℕ) (parts rows : ℕ) (y : T (are_bytes b)) (k : Checks b (sound_answer_of parts rows)) (cs : List Call) (run : Run b cs) where
   now : SoundSet (held_after b cs) parts (row_total (set_held (held_after b cs)))
   now = sound_answer (held_after b cs) parts (row_total (set_held (held_after b cs))) (run_accepted b parts rows y k cs run)
 
@@ -165,12 +163,12 @@ module _ (b : List ℕ) (parts rows : ℕ) (y : T (are_bytes b)) (k : Checks b (
   still e i = subst (λ (es : List Entity). In e es) (sym (mesh_unchanged b parts rows y k cs run)) i
 
   finds : (e : Entity) → In e (mesh_held b) → (r : LookupAnswer) → LooksUp (held_after b cs) e.dim e.number r
-      → r ≡ lookup.Found (residence_in (parts_held (held_after b cs)) (name e)) (record { 0 = (home_in (parts_held (held_after b cs)) (name e)).owner })
+      → r ≡ found_answer_of (residence_in (parts_held (held_after b cs)) (name e)) (record { 0 = (home_in (parts_held (held_after b cs)) (name e)).owner })
   finds e i r kept = lookup-one r _ (kept.answer ∙ lookup_finds (held_after b cs) (set_held (held_after b cs)) bytes now.accepts e (still e i))
 
   -- an object is found in one part, where the last call that moved it sent it or where it first was, and that part owns it
   pub object_found : (o : Entity) → In o (mesh_held b) → T (is_object (mesh_held b) (name o)) → (r : LookupAnswer) → LooksUp (held_after b cs) o.dim o.number r
-      → r ≡ lookup.Found (2 ^ places_after cs (places_held b) (name o)) (record { 0 = places_after cs (places_held b) (name o) })
+      → r ≡ found_answer_of (2 ^ places_after cs (places_held b) (name o)) (record { 0 = places_after cs (places_held b) (name o) })
   object_found o i t r kept =
       let ps = parts_held (held_after b cs) in
       let p = places_after cs (places_held b) (name o) in
@@ -178,7 +176,7 @@ module _ (b : List ℕ) (parts rows : ℕ) (y : T (are_bytes b)) (k : Checks b (
       let mask = one-residence ps fit p o only in
       let small : p < 64 = omega (arith, part_lt ps p o only.0, fit.few_parts) in
       let owner : owner_among ps (parts_in (residence_in ps (name o))) ≡ p = ap (λ (m : ℕ). owner_among ps (parts_in m)) mask ∙ one_owner ps fit p o only small in
-      finds o i r kept ∙ λ j. lookup.Found (mask j) (record { 0 = owner j })
+      finds o i r kept ∙ λ j. found_answer_of (mask j) (record { 0 = owner j })
 
   -- any entity of the mesh is found in exactly the parts that hold it, and the poorest of these owns it
   pub entity-found : (e : Entity) → In e (mesh_held b) → (r : LookupAnswer) → LooksUp (held_after b cs) e.dim e.number r
@@ -198,7 +196,7 @@ module _ (b : List ℕ) (parts rows : ℕ) (y : T (are_bytes b)) (k : Checks b (
 
   -- a dimension and a number that no entity of the mesh has are refused under 21, at no place
   pub none_found : (d n : ℕ) → n < 2 ^ 32 → ((e : Entity) → In e (mesh_held b) → e.dim ≡ d → e.number ≡ n → ⊥) → (r : LookupAnswer)
-      → LooksUp (held_after b cs) d n r → r ≡ lookup.Refused (record { number = 21; major = 0; minor = 0 })
+      → LooksUp (held_after b cs) d n r → r ≡ Err (record { number = 21; major = 0; minor = 0 })
   none_found d n small free r kept =
       lookup-one r _ (kept.answer ∙ lookup_misses (held_after b cs) (set_held (held_after b cs)) bytes now.accepts d n small
       (λ e i. free e (subst (λ (es : List Entity). In e es) (mesh_unchanged b parts rows y k cs run) i)))
@@ -206,10 +204,10 @@ module _ (b : List ℕ) (parts rows : ℕ) (y : T (are_bytes b)) (k : Checks b (
 -- ---- right after a call that moved
 
 -- each entry's object, looked up by the entry's own dimension and number, is found in the entry's part, which owns it
-pub destination_found : (b : List ℕ) (parts rows : ℕ) → T (are_bytes b) → Checks b (check.Sound parts rows) → (cs : List Call) (c : Call) → Run b (cs ++ (c ∷ []))
-    → (n rows' objects : ℕ) → c.answer ≡ migrate.Moved n rows' objects → (i : ℕ) → i < all_entries c.list → (r : LookupAnswer)
+pub destination_found : (b : List ℕ) (parts rows : ℕ) → T (are_bytes b) → Checks b (sound_answer_of parts rows) → (cs : List Call) (c : Call) → Run b (cs ++ (c ∷ []))
+    → (n rows' objects : ℕ) → c.answer ≡ moved_answer_of n rows' objects → (i : ℕ) → i < all_entries c.list → (r : LookupAnswer)
     → LooksUp (held_after b (cs ++ (c ∷ []))) (u8_at c.list (8 * i + 4)) (u32_at c.list (8 * i)) r
-    → r ≡ lookup.Found (2 ^ entry_part c.list i) (record { 0 = entry_part c.list i })
+    → r ≡ found_answer_of (2 ^ entry_part c.list i) (record { 0 = entry_part c.list i })
 destination_found b parts rows y k cs c run n rows' objects is i h r kept =
     let before = held_after b cs in
     let after = held_after b (cs ++ (c ∷ [])) in
@@ -220,4 +218,4 @@ destination_found b parts rows y k cs c run n rows' objects is i h r kept =
     let found = object_found b parts rows y k (cs ++ (c ∷ [])) run o (subst (λ (es : List Entity). In o es) same v.1)
     (subst (λ (es : List Entity). T (is_object es (name o))) same v.2) r
     (record { answer = kept.answer ∙ by_name after (u8_at c.list (8 * i + 4)) (u32_at c.list (8 * i)) o.dim o.number v.3 }) in
-    found ∙ ap (λ (p : ℕ). lookup.Found (2 ^ p) (record { 0 = p })) (last_destination b parts rows y k cs c run n rows' objects is (name o) i h v.3)
+    found ∙ ap (λ (p : ℕ). found_answer_of (2 ^ p) (record { 0 = p })) (last_destination b parts rows y k cs c run n rows' objects is (name o) i h v.3)

@@ -3,12 +3,12 @@
 use Prim.Native.Nat.{ℕ}
 use mathlib.Core.Path.{◌≡◌, refl, sym, ap, ◌∙◌}
 use mathlib.Core.List.{List, [], ◌∷◌, ◌++◌}
-use Rattle.paper.specs.declared.MigrateAnswer.{MigrateAnswer}
-use Rattle.paper.specs.declared.MigrateAnswer.TheVariants as migrate
 use Rattle.paper.specs.Placement.{Placement}
 use Rattle.demands.specs.History.{Ask, answer, image_after, history, place_after, last_places}
 use Rattle.calls.specs.Calls.{Call, CallKept, image_left, held, Run, held_after, place_left, places_after, ask, asks}
 use Rattle.calls.proofs.Answered.{call_moved, call_refused}
+use Rattle.std.specs.Prelude.{Err, Ok}
+use Rattle.paper.specs.Given.{MigrateAnswer}
 
 -- ---- one call
 
@@ -18,16 +18,16 @@ module _ (b : List ℕ) (c : Call) (k : CallKept b c) where
   held_is = go c.answer refl
     where
       go : (r : MigrateAnswer) → c.answer ≡ r → held b c ≡ image_after b (answer b (ask c))
-      go (migrate.Refused r) e = ap (λ (a : MigrateAnswer). image_left b a c.out') e ∙ sym (ap (image_after b) (call_refused b c k r e))
-      go (migrate.Moved n rows objects) e = sym (ap (image_after b) (call_moved b c k n rows objects e).outcome)
+      go (Err r) e = ap (λ (a : MigrateAnswer). image_left b a c.out') e ∙ sym (ap (image_after b) (call_refused b c k r e))
+      go (Ok m) e = sym (ap (image_after b) (call_moved b c k m.length m.rows m.moved e).outcome)
 
   place_is : (place : Placement) → place_left c.list place c.answer ≡ place_after c.list place (answer b (ask c))
   unfolding place_left place_after
   place_is place = go c.answer refl
     where
       go : (r : MigrateAnswer) → c.answer ≡ r → place_left c.list place r ≡ place_after c.list place (answer b (ask c))
-      go (migrate.Refused r) e = sym (ap (place_after c.list place) (call_refused b c k r e))
-      go (migrate.Moved n rows objects) e = sym (ap (place_after c.list place) (call_moved b c k n rows objects e).outcome)
+      go (Err r) e = sym (ap (place_after c.list place) (call_refused b c k r e))
+      go (Ok m) e = sym (ap (place_after c.list place) (call_moved b c k m.length m.rows m.moved e).outcome)
 
 -- ---- all of them
 

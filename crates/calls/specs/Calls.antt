@@ -1,8 +1,6 @@
 -- Sequences of calls of `migrate`, as a caller makes and sees them: what each call is lent, what it answers and leaves, and the image that the
 -- caller holds afterwards. The caller goes by the answers alone: it knows no mesh and no placement. Assumes nothing.
-use Rattle.std.specs.Prelude.{ℕ, List, [], ◌∷◌, map, length, take}
-use Rattle.paper.specs.declared.MigrateAnswer.{MigrateAnswer}
-use Rattle.paper.specs.declared.MigrateAnswer.TheVariants as migrate
+use Rattle.std.specs.Prelude.{ℕ, List, [], ◌∷◌, map, length, take, Err, Ok}
 use Rattle.paper.specs.Outcome.{Outcome, refused, accepted}
 use Rattle.paper.specs.Image.{Set}
 use Rattle.paper.specs.Mesh.{Entity, Parts, parts_of, mesh_of}
@@ -11,6 +9,7 @@ use Rattle.paper.specs.Placement.{Placement, place_in}
 use Rattle.paper.specs.Move.{moved}
 use Rattle.paper.specs.Promises.{Migrates}
 use Rattle.demands.specs.History.{Ask}
+use Rattle.paper.specs.Given.{MigrateAnswer}
 
 -- ---- one call
 
@@ -29,8 +28,8 @@ CallKept b c = Migrates b c.list c.out c.work c.answer c.out' c.work'
 
 -- the image that the caller holds after an answer: the bytes that the answer counts off, or after a refusal the one that it had
 unfoldable pub image_left : List ℕ → MigrateAnswer → List ℕ → List ℕ
-image_left b (migrate.Refused r) out' = b
-image_left b (migrate.Moved n rows objects) out' = take n out'
+image_left b (Err r) out' = b
+image_left b (Ok m) out' = take m.length out'
 
 abbrev pub held : List ℕ → Call → List ℕ
 held b c = image_left b c.answer c.out'
@@ -49,8 +48,8 @@ held_after b (c ∷ cs) = held_after (held b c) cs
 
 -- each object's part by the answers: the last destination that a call gave it which was not refused, or its first part
 unfoldable pub place_left : List ℕ → Placement → MigrateAnswer → Placement
-place_left l place (migrate.Refused r) = place
-place_left l place (migrate.Moved n rows objects) = moved l place
+place_left l place (Err r) = place
+place_left l place (Ok m) = moved l place
 
 unfoldable pub places_after : List Call → Placement → Placement
 places_after [] place = place

@@ -8,55 +8,37 @@ mod room;
 mod tasks;
 
 use arguments::Task;
+use reasons::Status;
 use std::fs::OpenOptions;
 use std::io::Write;
 
-// The answer to the arguments, and its status: 0, 1 on a refusal, 2 where there was nothing to answer.
-fn answer(rt: &HostRuntime) -> u64 {
-    let given = arguments::given(rt);
-    let task = arguments::asked(rt);
+// How many arguments the program gets for a task, its own name among them, and how the task is written. The script adds two to those of `migrate`.
+fn form(task: Task) -> (usize, &'static [u8]) {
     match task {
-        Task::Check => {
-            if given != 3 {
-                return arguments::usage(rt, b"check IMAGE");
-            }
-        }
-        Task::List => {
-            if given != 3 {
-                return arguments::usage(rt, b"list IMAGE");
-            }
-        }
-        Task::Lookup => {
-            if given != 5 {
-                return arguments::usage(rt, b"lookup IMAGE DIM NUMBER");
-            }
-        }
-        Task::Box => {
-            if given != 4 {
-                return arguments::usage(rt, b"box IMAGE PART");
-            }
-        }
-        Task::Migrate => {
-            if given != 7 {
-                return arguments::usage(rt, b"migrate IMAGE LIST OUT");
-            }
-        }
-        Task::Unknown => {
-            return arguments::usage(rt, b"check | list | lookup | box | migrate | help");
-        }
+        Task::Check => (3, b"check IMAGE"),
+        Task::List => (3, b"list IMAGE"),
+        Task::Lookup => (5, b"lookup IMAGE DIM NUMBER"),
+        Task::Box => (4, b"box IMAGE PART"),
+        Task::Migrate => (7, b"migrate IMAGE LIST OUT"),
     }
-    tasks::on_image(rt, task)
+}
+
+// The answer to the arguments, and its status.
+fn answer(rt: &HostRuntime) -> Status {
+    let Ok(task) = arguments::asked(rt) else {
+        return arguments::usage(rt, b"check | list | lookup | box | migrate | help");
+    };
+    let (wanted, words) = form(task);
+    if arguments::given(rt) != wanted {
+        return arguments::usage(rt, words);
+    }
+    tasks::on_image(rt, task).unwrap_or(Status::Failed)
 }
 
 // Writes the status to descriptor 3.
-fn tell(rt: &HostRuntime, status: u64) {
-    let digit: &[u8] = match status {
-        0 => b"0",
-        1 => b"1",
-        _ => b"2",
-    };
+fn tell(rt: &HostRuntime, status: Status) {
     if let Ok(mut out) = OpenOptions::new().append(true).open(rt, "/dev/fd/3") {
-        let _ = out.write_all(digit);
+        let _ = write!(out, "{status}");
     }
 }
 

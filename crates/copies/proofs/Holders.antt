@@ -8,6 +8,8 @@ use mathlib.Core.Bool.{Bool, true, false, not, ◌&&◌, ◌||◌}
 use mathlib.Core.List.{List, [], map}
 use lib.ListN.{length, get_or, length-map}
 use lib.Seq.{ext_get_or}
+use Rattle.std.specs.Prelude.{Result, Ok, Err}
+use Rattle.std.specs.Result.{is_ok}
 use Rattle.laws.specs.Lists.{In, every, up_to, member}
 use Rattle.laws.proofs.Tests.{T_true, and_l, no_T}
 use Rattle.laws.proofs.Members.{in_map, map_in, member_in, in_member}
@@ -16,9 +18,10 @@ use Rattle.laws.proofs.Agree.{get_or_map, every-same}
 use Rattle.field.specs.Bytes.{u64_at}
 use Rattle.part_set.specs.Masks.{has, others}
 use Rattle.paper.specs.Image.{Row, Set, no_row, row_at}
+use Rattle.paper.specs.declared.Slot.{Slot}
 use Rattle.paper.specs.Sound.{name_of_row, twin_agrees, copies_agree, judged}
 use Rattle.index.specs.Index.{row_from, set_in}
-use Rattle.index.specs.Find.{Hit, Miss}
+use Rattle.index.specs.Find.{Hit, Miss, Sought}
 use Rattle.index.proofs.RowFields.{row_mask}
 use Rattle.index.proofs.Answers.{searchable}
 use Rattle.paper.specs.declared.Rule.TheVariants.{Copies}
@@ -30,7 +33,7 @@ use Rattle.copies.proofs.Placed.{Stands, order_passed}
 -- ---- what the search finds
 
 module _ {keys starts : List ℕ} {q name s : ℕ} where
-  pub hit-held : Hit keys starts q name s → true ≡ member name (part_keys keys starts q)
+  hit-held : Hit keys starts q name s → true ≡ member name (part_keys keys starts q)
   unfolding part_keys
   hit-held h =
       let size = get_or starts (q + 1) 0 - get_or starts q 0 in
@@ -38,7 +41,7 @@ module _ {keys starts : List ℕ} {q name s : ℕ} where
       let there = in_map key (up_to size) s (in_up_to size s (omega (arith, h.inside))) in
       sym (T_true (member name (map key (up_to size))) (in_member name (map key (up_to size)) (subst (λ (x : ℕ). In x (map key (up_to size))) h.same there)))
 
-  pub miss_absent : Miss keys starts q name s → false ≡ member name (part_keys keys starts q)
+  miss_absent : Miss keys starts q name s → false ≡ member name (part_keys keys starts q)
   unfolding part_keys
   miss_absent m =
       let size = get_or starts (q + 1) 0 - get_or starts q 0 in
@@ -51,6 +54,11 @@ module _ {keys starts : List ℕ} {q name s : ℕ} where
         | yes le ↦ omega (arith, m.above w.0 le (omega arith), w.2)
         | no gt ↦ omega (arith, m.below w.0 (lt_of_not-le gt), w.2)
       ]))
+
+pub found_held : (keys starts : List ℕ) (q name : ℕ) (r : Result Slot Slot) → Sought keys starts q name r → is_ok r ≡ member name (part_keys keys starts q)
+unfolding Sought
+found_held keys starts q name (Ok s) hit = hit-held hit
+found_held keys starts q name (Err s) miss = miss_absent miss
 
 -- ---- one part
 

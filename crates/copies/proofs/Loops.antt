@@ -10,7 +10,7 @@ use lib.ListN.{get_or, drop, drop_of_length-le}
 use lib.Seq.{drop-cons}
 use Rattle.laws.specs.Lists.{In, every, up_to}
 use Rattle.laws.proofs.Ranges.{length_up_to, get_or_up_to}
-use Rattle.part_set.specs.Masks.{parts_in, lowest_of, Rest}
+use Rattle.part_set.specs.Masks.{parts_in, Turn}
 use Rattle.part_set.proofs.Walk.{parts_none}
 
 module _ (f : ℕ → Bool) where
@@ -25,9 +25,8 @@ module _ (f : ℕ → Bool) where
   -- ---- each number below n
 
   -- the test from i on gives the test from the start
-  pub record Left (n i : ℕ) : Type 0 where
-    pub within : i ≤ n
-    pub same : every f (drop i (up_to n)) ≡ every f (up_to n)
+  abbrev pub Left : ℕ → ℕ → Type 0
+  Left n i = every f (drop i (up_to n)) ≡ every f (up_to n)
 
   turn : (n i : ℕ) → i < n → every f (drop i (up_to n)) ≡ (f i && every f (drop (i + 1) (up_to n)))
   turn n i h =
@@ -35,17 +34,14 @@ module _ (f : ℕ → Bool) where
       ∙ every_cons (get_or (up_to n) i 0) (drop (suc i) (up_to n))
       ∙ ap₂ (λ (x k : ℕ). f x && every f (drop k (up_to n))) (get_or_up_to n i 0 h) (sym (add-one i))
 
-  pub left_start : (n : ℕ) → Left n 0
-  left_start n = record { within = omega arith; same = refl }
-
   pub left_more : (n i : ℕ) → Left n i → i < n → f i ≡ true → Left n (i + 1)
-  left_more n i v h e = record { within = omega arith; same = sym (turn n i h ∙ ap (λ (t : Bool). t && every f (drop (i + 1) (up_to n))) e) ∙ v.same }
+  left_more n i v h e = sym (turn n i h ∙ ap (λ (t : Bool). t && every f (drop (i + 1) (up_to n))) e) ∙ v
 
   pub left_fails : (n i : ℕ) → Left n i → i < n → f i ≡ false → false ≡ every f (up_to n)
-  left_fails n i v h e = sym (turn n i h ∙ ap (λ (t : Bool). t && every f (drop (i + 1) (up_to n))) e) ∙ v.same
+  left_fails n i v h e = sym (turn n i h ∙ ap (λ (t : Bool). t && every f (drop (i + 1) (up_to n))) e) ∙ v
 
   pub left_done : (n i : ℕ) → Left n i → n ≤ i → true ≡ every f (up_to n)
-  left_done n i v h = sym (ap (every f) (drop_of_length-le (up_to n) {i = i} (omega (arith, length_up_to n))) ∙ every_none) ∙ v.same
+  left_done n i v h = sym (ap (every f) (drop_of_length-le (up_to n) {i = i} (omega (arith, length_up_to n))) ∙ every_none) ∙ v
 
   -- ---- each part of the set w₀
 
@@ -53,25 +49,22 @@ module _ (f : ℕ → Bool) where
     pub same : every f (parts_in w) ≡ every f (parts_in w₀)
     pub inside : (q : ℕ) → In q (parts_in w) → In q (parts_in w₀)
 
-  pub walks_start : (w : ℕ) → Walks w w
-  walks_start w = record { same = refl; inside = λ q i. i }
-
-  -- a turn, at the least part q
-  module _ (w₀ w r q : ℕ) (v : Walks w₀ w) (rest : Rest w r) (least : q ≡ lowest_of w) where
+  -- a turn, at the part q
+  module _ {w₀ w q r : ℕ} (v : Walks w₀ w) (turn : Turn w q r) where
     first : every f (parts_in w) ≡ (f q && every f (parts_in r))
-    first = ap (every f) rest.parts ∙ every_cons (lowest_of w) (parts_in r) ∙ ap (λ (x : ℕ). f x && every f (parts_in r)) (sym least)
+    first = ap (every f) turn.parts ∙ every_cons q (parts_in r)
 
     pub walks_in : In q (parts_in w₀)
-    walks_in = v.inside q (subst (λ (l : List ℕ). In q l) (sym rest.parts) (inl least))
+    walks_in = v.inside q (subst (λ (l : List ℕ). In q l) (sym turn.parts) (inl refl))
 
     pub walks_more : f q ≡ true → Walks w₀ r
     walks_more e = record {
       same = sym (first ∙ ap (λ (t : Bool). t && every f (parts_in r)) e) ∙ v.same;
-      inside = λ x i. v.inside x (subst (λ (l : List ℕ). In x l) (sym rest.parts) (inr i));
+      inside = λ x i. v.inside x (subst (λ (l : List ℕ). In x l) (sym turn.parts) (inr i));
     }
 
     pub walks_fails : f q ≡ false → false ≡ every f (parts_in w₀)
     walks_fails e = sym (first ∙ ap (λ (t : Bool). t && every f (parts_in r)) e) ∙ v.same
 
-  pub walks_done : (w₀ w : ℕ) → Walks w₀ w → w ≡ 0 → true ≡ every f (parts_in w₀)
-  walks_done w₀ w v e = sym (ap (λ (x : ℕ). every f (parts_in x)) e ∙ ap (every f) parts_none ∙ every_none) ∙ v.same
+  pub walks_done : {w₀ w : ℕ} → Walks w₀ w → w ≡ 0 → true ≡ every f (parts_in w₀)
+  walks_done v e = sym (ap (λ (x : ℕ). every f (parts_in x)) e ∙ ap (every f) parts_none ∙ every_none) ∙ v.same

@@ -14,11 +14,11 @@ use Rattle.paper.specs.Image.{Row, Set, row_length_of, row_at}
 use Rattle.paper.specs.Mesh.{shape_of, ent_of, simplex}
 use Rattle.paper.specs.Sound.{value_fitting, body_fitting, fields_fit, slots_stand, boundary_stands}
 use Rattle.demands.proofs.Sound.Slots.{SlotsOk, slots_of_lem}
-use Rattle.index.specs.Index.{row_from, set_in, Indexed, Named}
+use Rattle.index.specs.Index.{row_from, set_in}
 use Rattle.index.proofs.RowFields.{row_long_enough}
-use Rattle.paper.specs.declared.Rule.TheVariants.{Fields, Order, Boundary, Copies}
+use Rattle.paper.specs.declared.Rule.TheVariants.{Fields, Order, Boundary}
 use Rattle.paper.specs.Sound.{judged}
-use Rattle.demands.specs.Passed.{Passed, PassedAhead}
+use Rattle.demands.specs.Passed.{Passed}
 use Rattle.copies.specs.Copies.{Ready}
 use Rattle.rows.specs.Values.{RowValueStands}
 use Rattle.rows.proofs.Laws.{part_there, row_there}
@@ -59,11 +59,6 @@ pub record Stands (b : List ℕ) (p s o : ℕ) : Type 0 where
   pub there : s < length (get_or (set_in b) p [])
   pub row : row_at (set_in b) p s ≡ row_from b o
   pub room : o + row_length_of (row_at (set_in b) p s).mask ≤ length b
-
--- what is known of a judged image is known with any name for its count of parts
-pub ready : {b offs starts keys : List ℕ} {n : ℕ} → Indexed b offs starts n → Named b starts keys → PassedAhead Copies (set_in b) → Ready b offs starts keys
-ready {b} {offs} {starts} index names passed =
-    record { index = subst (Indexed b offs starts) (sym index.count) index; names = names; passed = passed }
 
 module _ {b offs starts keys : List ℕ} (ready : Ready b offs starts keys) where
   pub fields_passed : Passed Fields (set_in b)

@@ -5,26 +5,23 @@ ghost use Rattle.std.specs.Prelude.{◌+◌, ◌≤◌, ◌<◌, ◌≡◌, [], 
 ghost use Rattle.laws.specs.Lists.{member, same};
 ghost use Rattle.field.specs.Bytes.{longs};
 ghost use Rattle.paper.specs.Sound.{remote_slot_of, twin_agrees};
-ghost use Rattle.index.specs.Index.{row_from, set_in};
+ghost use Rattle.index.specs.Index.{row_from};
 ghost use Rattle.index.specs.Find.{Searchable};
 ghost use Rattle.paper.specs.declared.Rule.TheVariants.{Copies};
 ghost use Rattle.paper.specs.Sound.{judged};
 ghost use Rattle.copies.specs.Copies.{twins_agree, Ready, TwinAsked, are_same_fields, NameCompared, faces_agree, shapes_agree, ShapeThere, is_same_copy, RemoteThere, part_keys, holders_all_listed, AllSearchable};
+ghost use Rattle.rows.specs.Tables.{set_of};
 ghost use Rattle.rows.specs.Values.{RowValueStands};
 
-use index::Found;
 use paper::{Part, Slot};
+use rows::Tables;
 
 // Do the rows at `at` and `to` have one name?
 fn same_name(image: &[u8], at: usize, to: usize) -> bool
     requires { (at + 48 ≤ length image.now) × (to + 48 ≤ length image.now) }
     ensures { NameCompared (row_from image.now at) (row_from image.now to) result }
 {
-    let number = field::word_at(image, at);
-    let dim = field::byte_at(image, at + 4);
-    let to_number = field::word_at(image, to);
-    let to_dim = field::byte_at(image, to + 4);
-    (number == to_number) & (dim == to_dim)
+    index::name_at(image, at) == index::name_at(image, to)
 }
 
 // Do they have equal kinds, values, residence sets and owners?
@@ -44,15 +41,24 @@ fn same_fields(image: &[u8], at: usize, to: usize) -> bool
     value & mask & owner
 }
 
+// The coordinates of the vertex at `at`, by their bits.
+fn point(image: &[u8], at: usize) -> [u64; 3]
+    requires { at + 48 ≤ length image.now }
+    ensures { result ≡ longs 3 (row_from image.now at).body }
+{
+    [
+        field::long_at(image, at + 24),
+        field::long_at(image, at + 32),
+        field::long_at(image, at + 40),
+    ]
+}
+
 // Do two vertices have equal coordinates, bit for bit?
 fn same_point(image: &[u8], at: usize, to: usize) -> bool
     requires { (at + 48 ≤ length image.now) × (to + 48 ≤ length image.now) }
     ensures { result ≡ same (longs 3 (row_from image.now at).body) (longs 3 (row_from image.now to).body) }
 {
-    let x = field::long_at(image, at + 24) == field::long_at(image, to + 24);
-    let y = field::long_at(image, at + 32) == field::long_at(image, to + 32);
-    let z = field::long_at(image, at + 40) == field::long_at(image, to + 40);
-    x & y & z
+    point(image, at) == point(image, to)
 }
 
 // Do the dim + 1 slots of two rows name rows of equal keys? The rows of their parts stand from row `here` and row `there` on.
@@ -70,15 +76,12 @@ fn same_faces(
     requires there_shape { ShapeThere image.now keys.now there to dim }
     ensures { result ≡ faces_agree image.now keys.now here at there to dim }
 {
-    let count = dim as usize + 1;
-    let mut i = 0;
-    while i < count {
+    for i in 0..dim as usize + 1 {
         let face = here + field::word_at(image, at + 24 + 4 * i) as usize;
         let mate = there + field::word_at(image, to + 24 + 4 * i) as usize;
         if keys[face] != keys[mate] {
             return false;
         }
-        i += 1;
     }
     true
 }
@@ -103,40 +106,24 @@ fn same_shape(
     same_faces(image, keys, here, at, there, to, dim)
 }
 
-// The first row of a part among all rows.
-fn first_row(starts: &[u32], part: Part) -> usize
-    requires { part.0 < length starts.now }
-    ensures { result ≡ get_or starts.now part.0 0 }
-{
-    rows::row_of(starts, part, Slot(0))
-}
-
 // Do the two rows hold the same entity, with an equal residence set and owner?
-fn same_copy(
-    image: &[u8],
-    offs: &[u32],
-    starts: &[u32],
-    keys: &[u64],
-    part: Part,
-    slot: Slot,
-    other: Part,
-    to: Slot,
-) -> bool
-    requires ready { Ready image.now offs.now starts.now keys.now }
-    requires slot_in_bounds { slot.0 < length (get_or (set_in image.now) part.0 []) }
-    requires to_in_bounds { to.0 < length (get_or (set_in image.now) other.0 []) }
-    ensures { result ≡ is_same_copy (set_in image.now) part.0 slot.0 other.0 to.0 }
+fn same_copy(tables: &Tables, keys: &[u64], part: Part, slot: Slot, other: Part, to: Slot) -> bool
+    requires ready { Ready tables.now.image.now tables.now.offs.now tables.now.starts.now keys.now }
+    requires slot_in_bounds { slot.0 < length (get_or (set_of tables.now) part.0 []) }
+    requires to_in_bounds { to.0 < length (get_or (set_of tables.now) other.0 []) }
+    ensures { result ≡ is_same_copy (set_of tables.now) part.0 slot.0 other.0 to.0 }
 {
-    let from = rows::offset_of(offs, starts, part, slot);
-    let at = rows::offset_of(offs, starts, other, to);
+    let image = tables.image;
+    let from = tables.offset_of(part, slot);
+    let at = tables.offset_of(other, to);
     if !same_name(image, from, at) {
         return false;
     }
     if !same_fields(image, from, at) {
         return false;
     }
-    let here = first_row(starts, part);
-    let there = first_row(starts, other);
+    let here = tables.row_of(part, Slot(0));
+    let there = tables.row_of(other, Slot(0));
     let dim = field::byte_at(image, from + 4);
     same_shape(image, keys, here, from, there, at, dim)
 }
@@ -152,51 +139,34 @@ pub fn remote_slot(image: &[u8], at: usize, own: Part, other: Part) -> Slot
 }
 
 // Does the row's copy in the part `other` agree with it, and name it back?
-fn twin(
-    image: &[u8],
-    offs: &[u32],
-    starts: &[u32],
-    keys: &[u64],
-    part: Part,
-    slot: Slot,
-    other: Part,
-) -> bool
-    requires ready { Ready image.now offs.now starts.now keys.now }
-    requires twin_asked { TwinAsked image.now part.0 slot.0 other.0 }
-    ensures { result ≡ twin_agrees (set_in image.now) part.0 slot.0 other.0 }
+fn twin(tables: &Tables, keys: &[u64], part: Part, slot: Slot, other: Part) -> bool
+    requires ready { Ready tables.now.image.now tables.now.offs.now tables.now.starts.now keys.now }
+    requires twin_asked { TwinAsked tables.now.image.now part.0 slot.0 other.0 }
+    ensures { result ≡ twin_agrees (set_of tables.now) part.0 slot.0 other.0 }
 {
-    let at = rows::offset_of(offs, starts, part, slot);
-    let t = remote_slot(image, at, part, other);
-    if rows::rows_in(starts, other) <= t.0 {
+    let at = tables.offset_of(part, slot);
+    let t = remote_slot(tables.image, at, part, other);
+    if tables.rows_in(other) <= t.0 {
         return false;
     }
-    if !same_copy(image, offs, starts, keys, part, slot, other, t) {
+    if !same_copy(tables, keys, part, slot, other, t) {
         return false;
     }
-    let to = rows::offset_of(offs, starts, other, t);
-    remote_slot(image, to, other, part).0 == slot.0
+    let to = tables.offset_of(other, t);
+    remote_slot(tables.image, to, other, part).0 == slot.0
 }
 
 // Does each copy that the row's residence set names agree with it?
-pub fn twins(
-    image: &[u8],
-    offs: &[u32],
-    starts: &[u32],
-    keys: &[u64],
-    part: Part,
-    slot: Slot,
-) -> bool
-    requires ready { Ready image.now offs.now starts.now keys.now }
-    requires slot_in_bounds { slot.0 < length (get_or (set_in image.now) part.0 []) }
-    ensures { result ≡ twins_agree (set_in image.now) part.0 slot.0 }
+pub fn twins(tables: &Tables, keys: &[u64], part: Part, slot: Slot) -> bool
+    requires ready { Ready tables.now.image.now tables.now.offs.now tables.now.starts.now keys.now }
+    requires slot_in_bounds { slot.0 < length (get_or (set_of tables.now) part.0 []) }
+    ensures { result ≡ twins_agree (set_of tables.now) part.0 slot.0 }
 {
-    let at = rows::offset_of(offs, starts, part, slot);
-    let mask = field::long_at(image, at + 8);
-    let mut w = part_set::without(mask, part.0);
-    while w != 0 {
-        let other = Part(part_set::lowest(w));
-        w = part_set::rest(w);
-        if !twin(image, offs, starts, keys, part, slot, other) {
+    let at = tables.offset_of(part, slot);
+    let mask = field::long_at(tables.image, at + 8);
+    let others = part_set::without(mask, part.0);
+    for other in part_set::parts(others) {
+        if !twin(tables, keys, part, slot, Part(other)) {
             return false;
         }
     }
@@ -204,53 +174,38 @@ pub fn twins(
 }
 
 // Does a part hold the name?
-fn holds(keys: &[u64], starts: &[u32], part: Part, name: u64) -> bool
-    requires { Searchable keys.now starts.now part.0 }
-    ensures { result ≡ member name (part_keys keys.now starts.now part.0) }
+fn holds(tables: &Tables, keys: &[u64], part: Part, name: u64) -> bool
+    requires { Searchable keys.now tables.now.starts.now part.0 }
+    ensures { result ≡ member name (part_keys keys.now tables.now.starts.now part.0) }
 {
-    let found = index::find(keys, starts, part, name);
-    match found {
-        Found::At(slot) => true,
-        Found::Absent(slot) => false,
-    }
+    index::find(keys, tables.starts, part, name).is_ok()
 }
 
-// Is each of the n parts that holds the name in the set?
-fn holders_listed(keys: &[u64], starts: &[u32], n: u32, mask: u64, name: u64) -> bool
-    requires { AllSearchable keys.now starts.now n }
-    ensures { result ≡ holders_all_listed keys.now starts.now n mask name }
+// Is each part that holds the name in the set?
+fn holders_listed(tables: &Tables, keys: &[u64], mask: u64, name: u64) -> bool
+    requires { AllSearchable keys.now tables.now.starts.now tables.now.parts }
+    ensures { result ≡ holders_all_listed keys.now tables.now.starts.now tables.now.parts mask name }
 {
-    let mut q = 0;
-    while q < n {
-        let held = holds(keys, starts, Part(q), name);
+    for q in 0..tables.parts {
+        let held = holds(tables, keys, Part(q), name);
         if held & !part_set::has(mask, q) {
             return false;
         }
-        q += 1;
     }
     true
 }
 
 // Does each copy agree, and is every part that holds the entity in the residence set?
-pub fn copies(
-    image: &[u8],
-    offs: &[u32],
-    starts: &[u32],
-    keys: &[u64],
-    n: u32,
-    part: Part,
-    slot: Slot,
-) -> bool
-    requires ready { Ready image.now offs.now starts.now keys.now }
-    requires n_value { n ≡ length (set_in image.now) }
-    requires slot_in_bounds { slot.0 < length (get_or (set_in image.now) part.0 []) }
-    ensures { result ≡ judged Copies (set_in image.now) part.0 slot.0 }
+pub fn copies(tables: &Tables, keys: &[u64], part: Part, slot: Slot) -> bool
+    requires ready { Ready tables.now.image.now tables.now.offs.now tables.now.starts.now keys.now }
+    requires slot_in_bounds { slot.0 < length (get_or (set_of tables.now) part.0 []) }
+    ensures { result ≡ judged Copies (set_of tables.now) part.0 slot.0 }
 {
-    if !twins(image, offs, starts, keys, part, slot) {
+    if !twins(tables, keys, part, slot) {
         return false;
     }
-    let at = rows::offset_of(offs, starts, part, slot);
-    let mask = field::long_at(image, at + 8);
-    let name = index::name_at(image, at);
-    holders_listed(keys, starts, n, mask, name)
+    let at = tables.offset_of(part, slot);
+    let mask = field::long_at(tables.image, at + 8);
+    let name = index::name_at(tables.image, at);
+    holders_listed(tables, keys, mask, name)
 }

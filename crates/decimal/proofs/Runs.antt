@@ -3,9 +3,9 @@ use Prim.Native.Nat.{ℕ, ◌+◌, ◌≤◌, ◌<◌}
 use native.Mathlib.Numerals.{add-one}
 use native.Mathlib.Omega.{arith}
 use mathlib.Core.Path.{◌≡◌, refl, sym, ap, ap₂, ◌∙◌}
-use mathlib.Core.List.{List, [], ◌∷◌, ◌++◌, map}
-use lib.ListN.{length, get_or, set, drop, length-append, drop_of_length-le}
-use lib.Seq.{sets, set_out, length-sets, drop-cons}
+use mathlib.Core.List.{List, [], ◌++◌, map}
+use lib.ListN.{length, drop, length-append, drop_of_length-le}
+use lib.Seq.{sets, length-sets, drop-cons}
 use Rattle.laws.specs.Lists.{flat, up_to}
 use Rattle.laws.proofs.Ranges.{length_up_to, get_or_up_to}
 use Rattle.laws.proofs.Stores.{sets_append, sets_then}
@@ -14,15 +14,6 @@ use Rattle.decimal.specs.Writing.{Room, Wrote}
 -- a text is one run of bytes and then another
 pub record Splits (text xs ys : List ℕ) : Type 0 where
   pub is : text ≡ xs ++ ys
-
--- ---- one byte
-
-pub wrote_byte : {out : List ℕ} {at v : ℕ} {out' : List ℕ} → out' ≡ set out at v → Wrote out at (v ∷ []) out' (at + 1)
-wrote_byte e = record { bytes = e; next = refl }
-
--- past the end
-pub wrote_nothing : {out : List ℕ} {at v : ℕ} {out' : List ℕ} → out' ≡ out → length out ≤ at → Wrote out at (v ∷ []) out' (at + 1)
-wrote_nothing {out} {at} {v} e h = record { bytes = e ∙ sym (set_out out at v h); next = refl }
 
 -- ---- two writers in a row
 
@@ -74,14 +65,6 @@ module _ {start : List ℕ} {at : ℕ} {text out : List ℕ} {to : ℕ} {rest : 
           ∙ sym (ap (sets out to) split.is ∙ sets_append out to xs more) ∙ left.bytes;
       end = omega (arith, w.next, left.end, ap length split.is, length-append xs more);
     }
-
--- ---- byte by byte
-
-pub bytes_next : (text : List ℕ) (i : ℕ) → i < length text → Splits (drop i text) (get_or text i 0 ∷ []) (drop (i + 1) text)
-bytes_next text i h = record { is = drop-cons text i 0 h ∙ ap (λ (k : ℕ). get_or text i 0 ∷ drop k text) (sym (add-one i)) }
-
-pub bytes_end : (text : List ℕ) (i : ℕ) → length text ≤ i → drop i text ≡ []
-bytes_end text i h = drop_of_length-le text h
 
 -- ---- a text for each number below n
 

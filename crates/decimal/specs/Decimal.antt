@@ -1,6 +1,5 @@
 -- Whole numbers in decimal: the digits of a number, and the number that a text is. Bytes of ASCII, no sign. Assumes nothing.
-use Rattle.std.specs.Prelude.{ℕ, zero, suc, ◌+◌, ◌*◌, ◌-◌, ◌/◌, ◌%◌, Bool, ◌&&◌, cond, List, [], ◌∷◌, leb, ltb}
-use Rattle.std.proofs.Math.Option.{Option, none, some}
+use Rattle.std.specs.Prelude.{ℕ, zero, suc, ◌+◌, ◌*◌, ◌-◌, ◌/◌, ◌%◌, Bool, ◌&&◌, cond, List, [], ◌∷◌, leb, ltb, Option, Some, None}
 
 -- ---- written
 
@@ -21,12 +20,12 @@ goes_on n d = leb 48 d && leb d 57 && ltb (n * 10 + (d - 48)) 4294967296
 
 -- the number whose digits come after those of n
 unfoldable pub read_from : ℕ → List ℕ → Option ℕ
-read_from n [] = some n
-read_from n (d ∷ ds) = let more = read_from (n * 10 + (d - 48)) ds in cond (goes_on n d) more none
+read_from n [] = Some n
+read_from n (d ∷ ds) = let more = read_from (n * 10 + (d - 48)) ds in cond (goes_on n d) more None
 
 -- the number that a text is: decimal digits alone, at least one, and below 2 ^ 32; zeros in front change nothing
 unfoldable pub number_in : List ℕ → Option ℕ
-number_in [] = none
+number_in [] = None
 number_in (d ∷ ds) = read_from 0 (d ∷ ds)
 
 -- opens this module, for what is to compute

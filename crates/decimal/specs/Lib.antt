@@ -1,3 +1,2 @@
 pub mod Decimal
 pub mod Writing
-pub mod Answers

@@ -21,10 +21,8 @@ pub fn put_text(out: &mut [u8], at: usize, text: &[u8]) -> usize
     ensures { Wrote out.old at text.now out.new result }
 {
     let mut to = at;
-    let mut i = 0;
-    while i < text.len() {
-        to = put_byte(out, to, text[i]);
-        i += 1;
+    for &byte in text {
+        to = put_byte(out, to, byte);
     }
     to
 }
@@ -35,10 +33,10 @@ pub fn put_decimal(out: &mut [u8], at: usize, v: u64) -> usize
     ensures { Wrote out.old at (decimal v) out.new result }
 {
     if v < 10 {
-        return put_byte(out, at, (48 + v) as u8);
+        return put_byte(out, at, b'0' + v as u8);
     }
     let last = put_decimal(out, at, v / 10);
-    put_byte(out, last, (48 + v % 10) as u8)
+    put_byte(out, last, b'0' + (v % 10) as u8)
 }
 
 // A space and a number in decimal.
@@ -46,6 +44,6 @@ pub fn put_field(out: &mut [u8], at: usize, v: u64) -> usize
     requires { Room at (32 ∷ decimal v) }
     ensures { Wrote out.old at (32 ∷ decimal v) out.new result }
 {
-    let number = put_byte(out, at, 32);
+    let number = put_byte(out, at, b' ');
     put_decimal(out, number, v)
 }

@@ -1,22 +1,15 @@
 -- Programs that take what a public function takes, and which of them are correct: those that keep its promise for every input. A program
 -- here is any function, so what no correct program does, no code that meets the contract does. Assumes nothing.
-use Rattle.std.specs.Prelude.{ℕ, List, length}
+use Rattle.std.specs.Prelude.{ℕ, List, length, Err, Ok, None, Some}
 use Rattle.std.proofs.Math.Option.{Option, none, some}
 use Rattle.paper.specs.declared.Box.{Box}
-use Rattle.paper.specs.declared.CheckAnswer.{CheckAnswer}
-use Rattle.paper.specs.declared.CheckAnswer.TheVariants as check
-use Rattle.paper.specs.declared.MigrateAnswer.{MigrateAnswer}
-use Rattle.paper.specs.declared.MigrateAnswer.TheVariants as migrate
-use Rattle.paper.specs.declared.LookupAnswer.{LookupAnswer}
-use Rattle.paper.specs.declared.LookupAnswer.TheVariants as lookup
-use Rattle.paper.specs.declared.BoxAnswer.{BoxAnswer}
-use Rattle.paper.specs.declared.BoxAnswer.TheVariants as box
 use Rattle.paper.specs.Outcome.{Outcome, refusal, refused, accepted, answered}
 use Rattle.paper.specs.Sound.{Checked, check_of}
 use Rattle.paper.specs.Move.{Migrated, Sizes, migrate_of, sizes_of, out_after, work_after}
 use Rattle.paper.specs.Lookup.{Found, lookup_of}
 use Rattle.paper.specs.Box.{box_asked}
 use Rattle.paper.specs.Promises.{Checks, Migrates, LooksUp, Bounds}
+use Rattle.paper.specs.Given.{CheckAnswer, MigrateAnswer, LookupAnswer, BoxAnswer, sound_answer_of, moved_answer_of, found_answer_of}
 
 -- ---- migrators
 
@@ -53,21 +46,21 @@ CorrectBox f = (image : List ℕ) (part : ℕ) → Bounds image part (f image pa
 -- ---- the program that does what the paper says
 
 abbrev pub check_says : Outcome Checked → CheckAnswer
-check_says (refused k p) = check.Refused (refusal k p)
-check_says (accepted c) = check.Sound c.parts c.rows
+check_says (refused k p) = Err (refusal k p)
+check_says (accepted c) = sound_answer_of c.parts c.rows
 
 abbrev pub migrate_says : Outcome Sizes → MigrateAnswer
-migrate_says (refused k p) = migrate.Refused (refusal k p)
-migrate_says (accepted s) = migrate.Moved s.length s.rows s.moved
+migrate_says (refused k p) = Err (refusal k p)
+migrate_says (accepted s) = moved_answer_of s.length s.rows s.moved
 
 abbrev pub lookup_says : Outcome Found → LookupAnswer
-lookup_says (refused k p) = lookup.Refused (refusal k p)
-lookup_says (accepted f) = lookup.Found f.residence (record { 0 = f.owner })
+lookup_says (refused k p) = Err (refusal k p)
+lookup_says (accepted f) = found_answer_of f.residence (record { 0 = f.owner })
 
 abbrev pub box_says : Outcome (Option Box) → BoxAnswer
-box_says (refused k p) = box.Refused (refusal k p)
-box_says (accepted none) = box.NoVertex
-box_says (accepted (some b)) = box.Around b
+box_says (refused k p) = Err (refusal k p)
+box_says (accepted none) = Ok None
+box_says (accepted (some b)) = Ok (Some b)
 
 -- what a migration leaves that comes to the outcome o
 abbrev pub done_with : Outcome Migrated → List ℕ → List ℕ → Done

@@ -1,17 +1,12 @@
 -- Programs that are wrong: those that document 01 names under "What the contracts must say", the errors under "Errors we have really made",
 -- and the accident of document 00. Each is right wherever it can be: it refuses what is to be refused, and errs in one thing.
 -- Assumes nothing.
-use Rattle.std.specs.Prelude.{ℕ, zero, suc, false, not, ◌&&◌, List, [], ◌∷◌, ◌++◌, map, length, get_or, take, drop, replicate, eqb, leb, ltb, pos}
+use Rattle.std.specs.Prelude.{ℕ, zero, suc, false, not, ◌&&◌, List, [], ◌∷◌, ◌++◌, map, length, get_or, take, drop, replicate, eqb, leb, ltb, pos, Err, Ok}
 use Rattle.std.proofs.Math.Option.{Option, none, some}
 use Rattle.std.specs.Float.{fin}
 use Rattle.laws.specs.Lists.{keep, flat, up_to, member}
 use Rattle.field.specs.Bytes.{u8_at}
 use Rattle.part_set.specs.Masks.{parts_in, others}
-use Rattle.paper.specs.declared.CheckAnswer.{CheckAnswer}
-use Rattle.paper.specs.declared.CheckAnswer.TheVariants as check
-use Rattle.paper.specs.declared.MigrateAnswer.TheVariants as migrate
-use Rattle.paper.specs.declared.LookupAnswer.{LookupAnswer}
-use Rattle.paper.specs.declared.BoxAnswer.{BoxAnswer}
 use Rattle.paper.specs.declared.Point.{Point}
 use Rattle.paper.specs.declared.Box.{Box}
 use Rattle.paper.specs.Outcome.{nowhere, refused, accepted, ◌>>=◌, ◌>>◌, answered, must}
@@ -23,6 +18,7 @@ use Rattle.paper.specs.Move.{moved, whole_entries, Migrated, migrate_set}
 use Rattle.paper.specs.Lookup.{lookup_of}
 use Rattle.paper.specs.Box.{point_of, grow_all}
 use Rattle.demands.specs.Programs.{Migrator, lookup_says, box_says, done_with, exact}
+use Rattle.paper.specs.Given.{CheckAnswer, LookupAnswer, BoxAnswer, sound_answer_of}
 
 -- ---- migrators that refuse as they should, and then give something else
 
@@ -146,7 +142,7 @@ clears_rest image list out work =
     let d = exact image list out work in
     record {
       answer = d.answer;
-      out = elim d.answer [ migrate.Refused r ↦ d.out | migrate.Moved n k c ↦ take n d.out ++ replicate (length (drop n out)) 0 ];
+      out = elim d.answer [ Err r ↦ d.out | Ok m ↦ take m.length d.out ++ replicate (length (drop m.length out)) 0 ];
       work = d.work;
     }
 
@@ -154,7 +150,7 @@ clears_rest image list out work =
 
 -- says of every image whose counts and rows fill it that it is sound
 abbrev pub says_sound : List ℕ → CheckAnswer
-says_sound image = elim (walk_parts (u8_at image 5) (drop 8 image)) [ none ↦ check.Sound 0 0 | some S ↦ check.Sound (length S) (row_total S) ]
+says_sound image = elim (walk_parts (u8_at image 5) (drop 8 image)) [ none ↦ sound_answer_of 0 0 | some S ↦ sound_answer_of (length S) (row_total S) ]
 
 -- answers the lowest part as owner
 abbrev pub lowest_owner : List ℕ → ℕ → ℕ → LookupAnswer

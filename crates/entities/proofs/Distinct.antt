@@ -9,6 +9,7 @@ use mathlib.Core.Logic.{◌⊎◌, inl, inr}
 use mathlib.Core.List.{List, [], ◌∷◌, map}
 use lib.ListN.{length, get_or, length-map}
 use lib.Dec.{T, eqb→eq, T_not}
+use Rattle.std.specs.Prelude.{Result, is_ok}
 use Rattle.laws.specs.Lists.{In, every, keep, ascending, up_to, member}
 use Rattle.laws.proofs.Tests.{T_true, true_T, split2, or_either, eq-eqb}
 use Rattle.laws.proofs.Members.{every_in, map_in, in_map, in_member, keep_in, get_or_in, part_lt}
@@ -29,7 +30,7 @@ use Rattle.paper.specs.declared.Rule.TheVariants.{Fields, Order, Copies}
 use Rattle.copies.specs.Copies.{twins_agree, TwinsPassed}
 use Rattle.paper.specs.Sound.{judged}
 use Rattle.demands.specs.Passed.{Passed}
-use Rattle.entities.specs.declared.Listed.{Listed}
+use Rattle.entities.specs.declared.Repeated.{Repeated}
 use Rattle.entities.specs.LowestCopies.{is_low, low_rows, low_runs, by_name, Entities}
 use Rattle.rows.proofs.Laws.{part_there}
 use Rattle.entities.proofs.Own.{own, own_in}
@@ -201,13 +202,13 @@ module _ {b offs starts keys : List ℕ} {n : ℕ} (index : Indexed b offs start
       (λ i j ne g h x y e. apart copies i j ne g h (in_run i g x) (in_run j h y) e)
 
   -- of what `entities` answers
-  module _ {ord tmp ord' tmp' : List ℕ} {r : Listed} (e : Entities (set_in b) starts keys ord tmp ord' tmp' n r) where
-    pub distinct_copies : TwinsPassed (set_in b) → r.distinct ≡ true → Passed Copies (set_in b)
+  module _ {ord tmp ord' tmp' : List ℕ} {r : Result ℕ Repeated} (e : Entities (set_in b) starts keys ord tmp ord' tmp' n r) where
+    pub distinct_copies : TwinsPassed (set_in b) → is_ok r ≡ true → Passed Copies (set_in b)
     distinct_copies twins d =
         ascending-copies twins
         (true_T (ascending (map (key_in keys) (by_name (set_in b) starts keys n))) (sym (e.distinct ∙ ap (λ (l : List ℕ). ascending (map (key_in keys) l)) e.rows) ∙ d))
 
-    pub copies_distinct : Passed Copies (set_in b) → r.distinct ≡ true
+    pub copies_distinct : Passed Copies (set_in b) → is_ok r ≡ true
     copies_distinct copies =
         e.distinct ∙ ap (λ (l : List ℕ). ascending (map (key_in keys) l)) e.rows
         ∙ T_true (ascending (map (key_in keys) (by_name (set_in b) starts keys n))) (copies-ascending copies)

@@ -7,15 +7,12 @@ use mathlib.Core.Logic.{⊎_elim}
 use mathlib.Core.List.{List, ◌++◌}
 use lib.ListN.{length, get_or, take, set, length-set}
 use lib.Seq.{get_or-set_same, get_or-set_other}
-use Rattle.index.specs.Index.{set_in, max_rows}
+use Rattle.index.specs.Index.{set_in, max_rows, Indexed}
 use Rattle.rows.proofs.Laws.{part_room}
 use Rattle.entities.specs.LowestCopies.{low_rows, low_runs}
-use Rattle.entities.specs.Gathering.{FieldsReadable, PartRoom, PartGathered, Gathered}
+use Rattle.entities.specs.Gathering.{PartRoom, PartGathered, Gathered}
 use Rattle.entities.proofs.Parts.{low_few}
 use Rattle.entities.proofs.Fronts.{front, front_none, front-more, front_length, runs_are}
-
-pub readable_all : {b offs starts : List ℕ} {n : ℕ} → FieldsReadable b offs starts n → FieldsReadable b offs starts (length (set_in b))
-readable_all {b} {offs} {starts} r = subst (λ (k : ℕ). FieldsReadable b offs starts k) (sym r.indexed.count) r
 
 -- the lowest copies of p parts are there, k in all
 pub record PartsFilled (b starts ord₀ st₀ ord st : List ℕ) (n p k : ℕ) : Type 0 where
@@ -28,7 +25,7 @@ pub record PartsFilled (b starts ord₀ st₀ ord st : List ℕ) (n p k : ℕ) :
   pub same_ord : length ord ≡ length ord₀
   pub same_st : length st ≡ length st₀
 
-module _ {b offs starts : List ℕ} {n : ℕ} (ready : FieldsReadable b offs starts n) (ord₀ st₀ : List ℕ) (room : max_rows + 1 ≤ length ord₀) (room-st : 65 ≤ length st₀) where
+module _ {b offs starts : List ℕ} {n : ℕ} (index : Indexed b offs starts n) (ord₀ st₀ : List ℕ) (room : max_rows + 1 ≤ length ord₀) (room-st : 65 ≤ length st₀) where
   pub filled_none : PartsFilled b starts ord₀ st₀ ord₀ st₀ n 0 0
   filled_none = record {
     within = omega arith;
@@ -44,8 +41,8 @@ module _ {b offs starts : List ℕ} {n : ℕ} (ready : FieldsReadable b offs sta
   module _ (ord st : List ℕ) (p k : ℕ) (now : PartsFilled b starts ord₀ st₀ ord st n p k) where
     pub filled_room : p < n → PartRoom (set_in b) p k ord
     filled_room h = record {
-      few = omega (arith, ready.indexed.count);
-      room = omega (arith, now.few, now.same_ord, ready.indexed.total_few, part_room ready.indexed p h);
+      few = omega (arith, index.count);
+      room = omega (arith, now.few, now.same_ord, index.total_few, part_room index p h);
     }
 
     -- where the entry at p of st is written, the first p + 1 begin where they should
@@ -61,11 +58,11 @@ module _ {b offs starts : List ℕ} {n : ℕ} (ready : FieldsReadable b offs sta
     filled_more ord' k' h g =
         let f = low_rows (set_in b) starts in record {
           within = omega arith;
-          begins = begin k now.count (omega (arith, now.same_st, ready.indexed.few));
+          begins = begin k now.count (omega (arith, now.same_st, index.few));
           count = omega (arith, g.count, now.count, front_length f p);
           filled = g.front ∙ ap (λ (xs : List ℕ). xs ++ f p) now.filled ∙ sym (front-more f p);
-          few = omega (arith, g.count, now.few, ready.indexed.next p h, low_few (set_in b) starts p);
-          small = omega (arith, g.count, now.few, low_few (set_in b) starts p, part_room ready.indexed p h, ready.indexed.total_few);
+          few = omega (arith, g.count, now.few, index.next p h, low_few (set_in b) starts p);
+          small = omega (arith, g.count, now.few, low_few (set_in b) starts p, part_room index p h, index.total_few);
           same_ord = g.same ∙ now.same_ord;
           same_st = length-set st p k ∙ now.same_st;
         }
@@ -76,7 +73,7 @@ module _ {b offs starts : List ℕ} {n : ℕ} (ready : FieldsReadable b offs sta
       let e : p ≡ n = omega (arith, now.within) in
       let full : PartsFilled b starts ord₀ st₀ ord st n n k = subst (λ (i : ℕ). PartsFilled b starts ord₀ st₀ ord st n i k) e now in
       let f = low_rows (set_in b) starts in
-      let l : n < length st = omega (arith, now.same_st, ready.indexed.few) in
+      let l : n < length st = omega (arith, now.same_st, index.few) in
       let at : (i : ℕ) → i ≤ n → get_or (set st n k) i 0 ≡ length (front f i) = λ i j. begin ord st n k full k full.count l i (omega arith) in
       record {
         runs = runs_are f (set st n k) ord n at (ap (λ (j : ℕ). take j ord) (sym full.count) ∙ full.filled);

@@ -8,6 +8,7 @@ use mathlib.Core.List.{List, [], map}
 use lib.ListN.{length, get_or, take, length-map}
 use lib.Seq.{get_or-take, length-take-le}
 use lib.Dec.{T, eqb, eqb→eq, T_not}
+use Rattle.std.specs.Prelude.{Result}
 use Rattle.laws.specs.Lists.{In, flat}
 use Rattle.laws.proofs.Tests.{decide, eq-eqb}
 use Rattle.laws.proofs.Members.{map_in, in_map, in_flat, flat_in, get_or_in}
@@ -27,8 +28,8 @@ use Rattle.index.specs.Index.{set_in, Indexed, Named}
 use Rattle.paper.specs.declared.Rule.TheVariants.{Fields, Order, Copies}
 use Rattle.paper.specs.Sound.{judged}
 use Rattle.demands.specs.Passed.{Passed}
-use Rattle.entities.specs.declared.Listed.{Listed}
-use Rattle.entities.specs.LowestCopies.{is_low, by_name, LowRow, Entities}
+use Rattle.entities.specs.declared.Repeated.{Repeated}
+use Rattle.entities.specs.LowestCopies.{is_low, by_name, LowRow, count_of, Entities}
 use Rattle.rows.proofs.Laws.{part_there}
 use Rattle.entities.proofs.Own.{own_in}
 use Rattle.entities.proofs.Members.{listed_low, low_listed, entry_low}
@@ -138,24 +139,24 @@ module _ {b offs starts keys : List ℕ} {n : ℕ} (index : Indexed b offs start
       (copies-ascending index named (fields_passed S f) (order_passed S f) (copies_passed S f)) (mesh-ascends (parts_of S)) keys_to keys_from
 
   -- of what `entities` answers
-  module _ {ord tmp ord' tmp' : List ℕ} {r : Listed} (e : Entities (set_in b) starts keys ord tmp ord' tmp' n r) where
-    pub entities_mesh : map (key_in keys) (take r.count ord') ≡ map name (mesh_of (parts_of (set_in b)))
+  module _ {ord tmp ord' tmp' : List ℕ} {r : Result ℕ Repeated} (e : Entities (set_in b) starts keys ord tmp ord' tmp' n r) where
+    pub entities_mesh : map (key_in keys) (take (count_of r) ord') ≡ map name (mesh_of (parts_of (set_in b)))
     entities_mesh = ap (map (key_in keys)) e.rows ∙ names_mesh
 
-    pub entities_count : r.count ≡ length (mesh_of (parts_of (set_in b)))
+    pub entities_count : count_of r ≡ length (mesh_of (parts_of (set_in b)))
     entities_count =
-        sym (length-take-le r.count ord' e.within) ∙ sym (length-map (take r.count ord') (key_in keys)) ∙ ap length entities_mesh
+        sym (length-take-le (count_of r) ord' e.within) ∙ sym (length-map (take (count_of r) ord') (key_in keys)) ∙ ap length entities_mesh
         ∙ length-map (mesh_of (parts_of (set_in b))) name
 
     -- an entry's name is that of the entity at its place
-    same_name : (i : ℕ) → i < r.count → key_in keys (get_or ord' i 0) ≡ name (get_or (mesh_of (parts_of (set_in b))) i no_ent)
+    same_name : (i : ℕ) → i < (count_of r) → key_in keys (get_or ord' i 0) ≡ name (get_or (mesh_of (parts_of (set_in b))) i no_ent)
     same_name i h =
-        let xs = take r.count ord' in
-        let l : i < length xs = omega (arith, length-take-le r.count ord' e.within) in
-        ap (key_in keys) (sym (get_or-take r.count ord' i 0 h)) ∙ sym (get_or_map (key_in keys) xs i 0 0 l) ∙ ap (λ (ks : List ℕ). get_or ks i 0) entities_mesh
+        let xs = take (count_of r) ord' in
+        let l : i < length xs = omega (arith, length-take-le (count_of r) ord' e.within) in
+        ap (key_in keys) (sym (get_or-take (count_of r) ord' i 0 h)) ∙ sym (get_or_map (key_in keys) xs i 0 0 l) ∙ ap (λ (ks : List ℕ). get_or ks i 0) entities_mesh
         ∙ get_or_map name (mesh_of (parts_of (set_in b))) i no_ent 0 (omega (arith, entities_count))
 
-    pub entity_at : (i : ℕ) → i < r.count → EntityAt (set_in b) starts ord' i
+    pub entity_at : (i : ℕ) → i < (count_of r) → EntityAt (set_in b) starts ord' i
     unfolding row_at
     entity_at i h =
         let S = set_in b in

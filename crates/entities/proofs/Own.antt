@@ -4,7 +4,6 @@ use native.Mathlib.Decide.{dec_le}
 use native.Mathlib.Nat.{not-suc-le-zero, lt_of_not-le}
 use native.Mathlib.Omega.{arith}
 use mathlib.Core.Path.{◌≡◌, sym, ap, ◌∙◌}
-use mathlib.Core.Bool.{cond}
 use mathlib.Core.List.{List, []}
 use lib.ListN.{length, get_or}
 use lib.Dec.{T, leb, ltb, eqb}
@@ -12,19 +11,16 @@ use Rattle.laws.specs.Lists.{In}
 use Rattle.laws.proofs.Tests.{split8}
 use Rattle.laws.proofs.Members.{get_or_in, part_lt}
 use Rattle.field.specs.Bytes.{u64_at}
-use borrow.Author.Tests.{eq-eqb, ne_eqb}
 use Rattle.part_set.specs.Masks.{has, parts_in, lowest_of}
 use Rattle.part_set.proofs.MaskParts.{has_lt, in_parts_in}
 use Rattle.paper.specs.Image.{Row, Set, no_row, row_at}
 use Rattle.paper.specs.Sound.{value_fitting, body_fitting, fields_fit}
-use Rattle.index.specs.Index.{set_in, max_rows}
+use Rattle.index.specs.Index.{set_in, Indexed}
 use Rattle.index.proofs.RowFields.{row_mask}
 use Rattle.paper.specs.declared.Rule.TheVariants.{Fields}
 use Rattle.paper.specs.Sound.{judged}
 use Rattle.demands.specs.Passed.{Passed}
-use Rattle.rows.proofs.Laws.{row_there, offset_there}
 use Rattle.entities.specs.LowestCopies.{is_low}
-use Rattle.entities.specs.Gathering.{FieldsReadable}
 
 own_bit : (n p : ℕ) (r : Row) → T (fields_fit n p r) → T (has r.mask p)
 unfolding fields_fit
@@ -44,24 +40,14 @@ module _ (S : Set) (fields : Passed Fields S) (p s : ℕ) (h : s < length (get_o
   own_in few = let l = part_lt S p (get_or (get_or S p []) s no_row) (get_or_in (get_or S p []) s no_row h) in in_parts_in (row_at S p s).mask p (omega arith) own
 
 -- what is read of row s of part p
-module _ {b offs starts : List ℕ} {n : ℕ} (ready : FieldsReadable b offs starts n) (p s : ℕ) (h : s < length (get_or (set_in b) p [])) where
-  pub mask_at : u64_at b (get_or offs (get_or starts p 0 + s) 0 + 8) ≡ (row_at (set_in b) p s).mask
-  mask_at = sym (row_mask b (get_or offs (get_or starts p 0 + s) 0)) ∙ ap (λ (r : Row). r.mask) (sym (ready.indexed.row p s h))
+module _ {b offs starts : List ℕ} {n : ℕ} (index : Indexed b offs starts n) (fields : Passed Fields (set_in b)) (p s : ℕ) (h : s < length (get_or (set_in b) p [])) where
+  mask_at : u64_at b (get_or offs (get_or starts p 0 + s) 0 + 8) ≡ (row_at (set_in b) p s).mask
+  mask_at = sym (row_mask b (get_or offs (get_or starts p 0 + s) 0)) ∙ ap (λ (r : Row). r.mask) (sym (index.row p s h))
 
   pub mask_some : 0 < u64_at b (get_or offs (get_or starts p 0 + s) 0 + 8)
-  mask_some = omega (arith, mask_at, has_some (row_at (set_in b) p s).mask p (own (set_in b) ready.fields p s h))
+  mask_some = omega (arith, mask_at, has_some (row_at (set_in b) p s).mask p (own (set_in b) fields p s h))
 
-  pub row_listed : get_or starts p 0 + s < max_rows
-  row_listed = row_there ready.indexed p s h
-
-  pub offset_listed : get_or offs (get_or starts p 0 + s) 0 + 48 ≤ length b
-  offset_listed = offset_there ready.indexed p s h
-
-  -- the answer of the test, where v is the lowest part of the set m that is read
-  pub low_yes : (at m v : ℕ) → at ≡ get_or offs (get_or starts p 0 + s) 0 → m ≡ u64_at b (at + 8) → v ≡ lowest_of m → v ≡ p → ◌≡◌ {A = ℕ} 1 (cond (is_low (set_in b) p s) 1 0)
+  -- the lowest part of the set that is read, compared with the row's own
+  pub low_read : (v : ℕ) → v ≡ lowest_of (u64_at b (get_or offs (get_or starts p 0 + s) 0 + 8)) → eqb v p ≡ is_low (set_in b) p s
   unfolding is_low
-  low_yes at m v a e l q = let z : (row_at (set_in b) p s).mask ≡ m = sym mask_at ∙ ap (λ (i : ℕ). u64_at b (i + 8)) (sym a) ∙ sym e in rw (z, eq-eqb (lowest_of m) p (sym l ∙ q))
-
-  pub low_no : (at m v : ℕ) → at ≡ get_or offs (get_or starts p 0 + s) 0 → m ≡ u64_at b (at + 8) → v ≡ lowest_of m → (v ≡ p → ⊥) → ◌≡◌ {A = ℕ} 0 (cond (is_low (set_in b) p s) 1 0)
-  unfolding is_low
-  low_no at m v a e l q = let z : (row_at (set_in b) p s).mask ≡ m = sym mask_at ∙ ap (λ (i : ℕ). u64_at b (i + 8)) (sym a) ∙ sym e in rw (z, ne_eqb (lowest_of m) p (λ w. q (l ∙ w)))
+  low_read v e = ap (λ (x : ℕ). eqb x p) (e ∙ ap lowest_of mask_at)

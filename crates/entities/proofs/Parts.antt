@@ -7,13 +7,16 @@ use mathlib.Core.Bool.{Bool, true, false, cond}
 use mathlib.Core.List.{List, [], ◌∷◌, ◌++◌, map, append-nil, append_assoc}
 use lib.ListN.{length, get_or, take, set, length-set, length-map, length-append}
 use lib.Seq.{take-suc-set, take-set-le, length-take-le}
+use Rattle.std.specs.Int.{from_bool}
 use Rattle.laws.specs.Lists.{keep, from, up_to}
 use Rattle.laws.proofs.Agree.{length-keep}
 use Rattle.laws.proofs.Ranges.{length_up_to}
 use Rattle.laws.proofs.Tests.{one_at_most}
 use Rattle.paper.specs.Image.{Set}
+use Rattle.index.specs.Index.{set_in, max_rows, Indexed}
+use Rattle.rows.proofs.Laws.{part_room, part-rows}
 use Rattle.entities.specs.LowestCopies.{is_low, low_rows}
-use Rattle.entities.specs.Gathering.{PartGathered}
+use Rattle.entities.specs.Gathering.{PartRoom, PartGathered}
 
 -- those from slot s on
 unfoldable pub low_from : Set → List ℕ → ℕ → ℕ → List ℕ
@@ -30,9 +33,21 @@ low_few S starts p =
       length_up_to (length (get_or S p [])),
     )
 
--- the test's answer is 1 at most
-pub low-one : (S : Set) (p s d : ℕ) → d ≡ cond (is_low S p s) 1 0 → d ≤ 1
-low-one S p s d e = omega (arith, one_at_most (is_low S p s), e)
+byte_is : (b : Bool) → from_bool b ≡ cond b 1 0
+byte_is true = refl
+byte_is false = refl
+
+-- by how much the count grows
+pub low_count : (S : Set) (p s : ℕ) {l : Bool} {d : ℕ} → l ≡ is_low S p s → d ≡ from_bool l → d ≡ cond (is_low S p s) 1 0
+low_count S p s e f = f ∙ ap from_bool e ∙ byte_is (is_low S p s)
+
+-- the rows of a part that has room
+module _ {b offs starts : List ℕ} {n : ℕ} (index : Indexed b offs starts n) {p k : ℕ} {ord : List ℕ} (room : PartRoom (set_in b) p k ord) where
+  pub row_count : get_or starts (p + 1) 0 - get_or starts p 0 ≡ length (get_or (set_in b) p [])
+  row_count = part-rows index p (omega (arith, room.few, index.count))
+
+  pub rows_few : get_or starts p 0 + length (get_or (set_in b) p []) ≤ max_rows
+  rows_few = omega (arith, part_room index p (omega (arith, room.few, index.count)), index.total_few)
 
 -- slot s is looked at next; what stands before k and what is to come are the whole
 pub record Going (S : Set) (starts : List ℕ) (p : ℕ) (ord₀ ord : List ℕ) (k₀ s k : ℕ) : Type 0 where

@@ -1,23 +1,8 @@
 -- What the functions that gather the lowest copies ask and promise. Assumes nothing: these are definitions.
 use Rattle.std.specs.Prelude.{◌≡◌, List, [], ◌++◌, ℕ, ◌+◌, ◌≤◌, ◌<◌, length, get_or, take}
 use Rattle.paper.specs.Image.{Set}
-use Rattle.index.specs.Index.{set_in, max_rows, Indexed, Named}
-use Rattle.paper.specs.declared.Rule.TheVariants.{Fields}
-use Rattle.demands.specs.Passed.{Passed}
 use Rattle.merge.specs.Runs.{runs_of}
 use Rattle.entities.specs.LowestCopies.{low_rows, low_runs}
-
--- an image with its index, whose rows have passed rule 7
-pub record FieldsReadable (b offs starts : List ℕ) (n : ℕ) : Type 0 where
-  pub indexed : Indexed b offs starts n
-  pub fields : Passed Fields (set_in b)
-
--- and the names of its rows, with room for the list
-pub record Listable (b offs starts keys ord tmp : List ℕ) (n : ℕ) : Type 0 where
-  pub readable : FieldsReadable b offs starts n
-  pub named : Named b starts keys
-  pub room_ord : max_rows + 1 ≤ length ord
-  pub room_tmp : max_rows + 1 ≤ length tmp
 
 -- there is room for the rows of part p behind the first k entries
 pub record PartRoom (S : Set) (p k : ℕ) (ord : List ℕ) : Type 0 where

@@ -7,44 +7,41 @@ ghost use Rattle.std.specs.Float.{binary64};
 ghost use Rattle.std.specs.Float.Ieee.{of_bits};
 ghost use Rattle.field.specs.Bytes.{u8_at, u16_at, u32_at, u64_at, bytes_of, finite};
 
-pub fn wide(x: u8) -> u32
-    ensures { (result ≡ x) × (result < 256) }
-{
-    x as u32
-}
-
 pub fn byte_at(b: &[u8], at: usize) -> u32
     requires { at + 1 ≤ length b.now }
     ensures { (result ≡ u8_at b.now at) × (result < 256) }
 {
-    wide(b[at])
+    u32::from(b[at])
 }
 
 pub fn half_at(b: &[u8], at: usize) -> u32
     requires { at + 2 ≤ length b.now }
     ensures { (result ≡ u16_at b.now at) × (result < 65536) }
 {
-    let low = wide(b[at]);
-    let high = wide(b[at + 1]);
-    low + 256 * high
+    u32::from(u16::from_le_bytes([b[at], b[at + 1]]))
 }
 
 pub fn word_at(b: &[u8], at: usize) -> u32
     requires { at + 4 ≤ length b.now }
     ensures { result ≡ u32_at b.now at }
 {
-    let low = half_at(b, at);
-    let high = half_at(b, at + 2);
-    low + 65536 * high
+    u32::from_le_bytes([b[at], b[at + 1], b[at + 2], b[at + 3]])
 }
 
 pub fn long_at(b: &[u8], at: usize) -> u64
     requires { at + 8 ≤ length b.now }
     ensures { result ≡ u64_at b.now at }
 {
-    let low = word_at(b, at) as u64;
-    let high = word_at(b, at + 4) as u64;
-    low + 4294967296 * high
+    u64::from_le_bytes([
+        b[at],
+        b[at + 1],
+        b[at + 2],
+        b[at + 3],
+        b[at + 4],
+        b[at + 5],
+        b[at + 6],
+        b[at + 7],
+    ])
 }
 
 // A finite f64's exponent field is not all ones.
@@ -77,14 +74,7 @@ pub fn put_word(out: &mut [u8], at: usize, v: u32)
     requires { at + 4 ≤ length out.old }
     ensures { out.new ≡ sets out.old at (bytes_of 4 v) }
 {
-    put_bytes(
-        out,
-        at,
-        v % 256,
-        v / 256 % 256,
-        v / 256 / 256 % 256,
-        v / 256 / 256 / 256 % 256,
-    );
+    out[at..at + 4].copy_from_slice(&v.to_le_bytes());
 }
 
 // The eight bytes of v.
@@ -92,8 +82,7 @@ pub fn put_long(out: &mut [u8], at: usize, v: u64)
     requires { at + 8 ≤ length out.old }
     ensures { out.new ≡ sets out.old at (bytes_of 8 v) }
 {
-    put_word(out, at, (v % 4294967296) as u32);
-    put_word(out, at + 4, (v / 4294967296) as u32);
+    out[at..at + 8].copy_from_slice(&v.to_le_bytes());
 }
 
 // n zeros.
@@ -101,11 +90,7 @@ pub fn put_zeros(out: &mut [u8], at: usize, n: usize)
     requires { at + n ≤ length out.old }
     ensures { out.new ≡ sets out.old at (replicate n 0) }
 {
-    let mut i = 0;
-    while i < n {
-        out[at + i] = 0;
-        i += 1;
-    }
+    out[at..at + n].fill(0);
 }
 
 // n bytes of `from` from `at` on, put to out from `to` on.
@@ -113,9 +98,5 @@ pub fn copy(from: &[u8], at: usize, out: &mut [u8], to: usize, n: usize)
     requires { (at + n ≤ length from.now) × (to + n ≤ length out.old) }
     ensures { out.new ≡ sets out.old to (take n (drop at from.now)) }
 {
-    let mut i = 0;
-    while i < n {
-        out[to + i] = from[at + i];
-        i += 1;
-    }
+    out[to..to + n].copy_from_slice(&from[at..at + n]);
 }

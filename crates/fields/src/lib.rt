@@ -7,6 +7,7 @@ ghost use Rattle.index.specs.Index.{row_from};
 ghost use Rattle.fields.specs.Order.{key_ascends};
 
 use paper::{Part, Slot};
+use rows::Tables;
 
 // Kind 0 has no bits, kind 1 any, kind 2 those of a finite f64.
 fn value_fits(kind: u32, bits: u64) -> bool
@@ -68,14 +69,14 @@ pub fn fields(image: &[u8], at: usize, n: u32, part: Part) -> bool
 }
 
 // The first row of a part is in order, any other where its name is above that of the row before it.
-pub fn order(keys: &[u64], starts: &[u32], part: Part, slot: Slot) -> bool
-    requires part_in_bounds { part.0 < length starts.now }
-    requires slot_in_bounds { get_or starts.now part.0 0 + slot.0 < length keys.now }
-    ensures { result ≡ key_ascends keys.now starts.now part.0 slot.0 }
+pub fn order(tables: &Tables, keys: &[u64], part: Part, slot: Slot) -> bool
+    requires part_in_bounds { part.0 < length tables.now.starts.now }
+    requires slot_in_bounds { get_or tables.now.starts.now part.0 0 + slot.0 < length keys.now }
+    ensures { result ≡ key_ascends keys.now tables.now.starts.now part.0 slot.0 }
 {
     if slot.0 == 0 {
         return true;
     }
-    let row = rows::row_of(starts, part, slot);
+    let row = tables.row_of(part, slot);
     keys[row - 1] < keys[row]
 }

@@ -37,12 +37,8 @@ pub fn create(rt: &HostRuntime, name: &mut [u8]) -> io::Result<File> {
     for number in 0..NAMES {
         put_letters(&mut name[place..], number);
         match create_new(rt, name) {
-            Ok(file) => return Ok(file),
-            Err(why) => {
-                if why.kind() != ErrorKind::AlreadyExists {
-                    return Err(why);
-                }
-            }
+            Err(why) if why.kind() == ErrorKind::AlreadyExists => {}
+            created => return created,
         }
     }
     Err(Error::from_raw_os_error(FILE_EXISTS))

@@ -3,17 +3,18 @@ use Prim.Native.Nat.{ℕ, ◌+◌, ◌^◌, ◌≤◌, ◌<◌}
 use native.Mathlib.Decide.{dec_le}
 use native.Mathlib.Nat.{lt_of_not-le}
 use native.Mathlib.Omega.{arith}
-use mathlib.Core.Path.{◌≡◌, refl, sym, ap, ap₂, ◌∙◌, subst}
+use mathlib.Core.Path.{◌≡◌, sym, ap, ap₂, ◌∙◌, subst}
 use mathlib.Core.Bool.{Bool}
 use mathlib.Core.List.{List, [], ◌∷◌, map}
 use lib.ListN.{length, get_or, set, length-set}
 use lib.Seq.{get_or-set_same, get_or-set_other}
 use lib.Dec.{T}
-use lib.Pow.{are_bytes, pow_mono}
+use lib.Pow.{pow_mono}
 use Rattle.laws.specs.Lists.{In, some?}
 use Rattle.laws.proofs.Tests.{iff_eq}
 use Rattle.laws.proofs.Members.{some_in, map_in, in_map}
 use Rattle.laws.proofs.Agree.{some_same, some_of_map}
+use Rattle.field.proofs.Reading.{bytes_all}
 use Rattle.part_set.specs.Masks.{has, parts_in}
 use Rattle.part_set.proofs.MaskBits.{mask_ext}
 use Rattle.part_set.proofs.MaskParts.{has_lt, parts_in_in, in_parts_in}
@@ -27,7 +28,7 @@ use Rattle.demands.proofs.ForCode.Marks.{marked, copy_slot, mask_by_copies, row_
 use Rattle.index.specs.Index.{set_in, max_rows}
 use Rattle.rows.proofs.Laws.{part_there, row_there}
 use Rattle.entities.proofs.Distinct.{one-part}
-use Rattle.plan.specs.Plan.{mesh, placing, new_set, LowestRow, Masked, Numbered}
+use Rattle.plan.specs.Plan.{mesh, placing, new_set, LowestRow, Sourced, Masked, Numbered}
 use Rattle.homes.specs.Joining.{Joinable}
 use Rattle.homes.specs.CopyRows.{other_rows, joined, numbered, EntityThere}
 use Rattle.homes.proofs.Unions.{has-joined, length-one, numbered_in, numbered_out}
@@ -46,23 +47,16 @@ pub record Homed (b l starts masks₀ ent₀ masks ent : List ℕ) (i : ℕ) : T
   pub same_masks : length masks ≡ length masks₀
   pub same-ent : length ent ≡ length ent₀
 
-pub homed_none : (b l starts masks ent : List ℕ) → Homed b l starts masks ent masks ent 0
-homed_none b l starts masks ent = record {
-  masked = λ j h. absurd (omega (arith, h));
-  entered = λ p s h k. absurd (omega (arith, k));
-  same_masks = refl;
-  same-ent = refl;
-}
-
-module _ {b l offs starts covered ord dest work masks₀ ent₀ : List ℕ} {n m : ℕ} (ready : Joinable b l offs starts covered ord dest work masks₀ ent₀ n m) (y : T (are_bytes b)) where
+module _ {b l offs starts covered ord dest work masks₀ ent₀ : List ℕ} {n m : ℕ} (source : Sourced b offs starts ord n m)
+    (ready : Joinable b l starts covered dest work masks₀ ent₀ n) (bytes : (i : ℕ) → get_or b i 0 < 256) where
   sound : Sound (set_in b)
-  sound = (sound_inv b (set_in b) y ready.source.sound).0
+  sound = (sound_inv b (set_in b) (bytes_all b bytes) source.sound).0
 
   -- the tables end with the rows of all entities done
   pub homed_done : (masks ent : List ℕ) (i : ℕ) → Homed b l starts masks₀ ent₀ masks ent i → m ≤ i → Masked b l masks × Numbered b starts ent
   unfolding row_at
   homed_done masks ent i now h =
-      let all : m ≡ length (mesh b) = ready.source.ordered.count in (
+      let all : m ≡ length (mesh b) = source.ordered.count in (
         record { room = omega (arith, now.same_masks, ready.masks_room); entry = λ j k. now.masked j (omega arith) },
         record { room = omega (arith, now.same-ent, ready.ent_room); entry = λ p s k. now.entered p s k (omega (arith, (row_index (set_in b) sound p s k).0)) },
       )
@@ -71,16 +65,16 @@ module _ {b l offs starts covered ord dest work masks₀ ent₀ : List ℕ} {n m
 
   module _ (i : ℕ) (hi : i < m) where
     low-row : LowestRow (set_in b) starts ord i
-    low-row = ready.source.ordered.row i hi
+    low-row = source.ordered.row i hi
 
     pub lowest_listed : get_or ord i 0 < max_rows
-    lowest_listed = omega (arith, low-row.is, row_there ready.source.indexed low-row.part low-row.slot low-row.there)
+    lowest_listed = omega (arith, low-row.is, row_there source.indexed low-row.part low-row.slot low-row.there)
 
     module _ (g o : ℕ) (at-ord : g ≡ get_or ord i 0) (at-offs : o ≡ get_or offs g 0) where
       pub one-there : (ent : List ℕ) → length ent ≡ length ent₀ → EntityThere b starts o g work ent
       one-there ent same =
           let w = low-row in
-          entity_there ready.source.indexed sound w.part w.slot w.there w.low g o (at-ord ∙ w.is) at-offs work ent ready.words (omega (arith, same, ready.ent_room))
+          entity_there source.indexed sound w.part w.slot w.there w.low g o (at-ord ∙ w.is) at-offs work ent ready.words (omega (arith, same, ready.ent_room))
 
       abbrev p : ℕ
       p = low-row.part
@@ -92,7 +86,7 @@ module _ {b l offs starts covered ord dest work masks₀ ent₀ : List ℕ} {n m
       here = low-row.there
 
       in_mesh : i < length (mesh b)
-      in_mesh = omega (arith, ready.source.ordered.count)
+      in_mesh = omega (arith, source.ordered.count)
 
       entity : ent (set_in b) p s ≡ get_or (mesh b) i no_ent
       unfolding row_at
@@ -103,7 +97,7 @@ module _ {b l offs starts covered ord dest work masks₀ ent₀ : List ℕ} {n m
       copy_row r = get_or starts r 0 + copy_slot (set_in b) p s r
 
       rows : g ∷ other_rows b starts o ≡ map copy_row (parts_in (row (set_in b) p s).mask)
-      rows = all_rows ready.source.indexed sound p s here low-row.low g o (at-ord ∙ low-row.is) at-offs
+      rows = all_rows source.indexed sound p s here low-row.low g o (at-ord ∙ low-row.is) at-offs
 
       -- ---- its set
 
@@ -133,7 +127,7 @@ module _ {b l offs starts covered ord dest work masks₀ ent₀ : List ℕ} {n m
           outside far =
               iff_eq (has (joined work (get_or work g 0) (other_rows b starts o)) q) (has (new_set b l i) q)
               (λ t. let w = some_in on (parts_in (row (set_in b) p s).mask) (subst T (union-bits q) t) in
-              absurd (omega (arith, marked_lt b l sound ready.well w.0 q (copy_slot (set_in b) p s w.0) w.2, ready.source.indexed.count)))
+              absurd (omega (arith, marked_lt b l sound ready.well w.0 q (copy_slot (set_in b) p s w.0) w.2, source.indexed.count)))
               (λ t. absurd (omega (arith, has_lt (length (set_in b)) (new_set b l i) q (mask_lt (length (set_in b)) (mesh b) (placing b l) i) t)))
 
       new-set : (v : ℕ) → v < 2 ^ 64 → v ≡ joined work (get_or work g 0) (other_rows b starts o) → v ≡ new_set b l i
@@ -150,7 +144,7 @@ module _ {b l offs starts covered ord dest work masks₀ ent₀ : List ℕ} {n m
           let is : ent (set_in b) q t ≡ ent (set_in b) p s = sym (row_index (set_in b) sound q t k).1 ∙ ap (λ (x : ℕ). get_or (mesh b) x no_ent) e ∙ sym entity in
           let w = is_copy (set_in b) sound p s here q t k is in
           let mask = (row (set_in b) p s).mask in
-          let q-lt : q < 64 = omega (arith, part_there ready.source.indexed q t k, ready.source.indexed.few) in
+          let q-lt : q < 64 = omega (arith, part_there source.indexed q t k, source.indexed.few) in
           subst (λ (xs : List ℕ). In (get_or starts q 0 + t) xs) (sym rows)
           (subst (λ (x : ℕ). In (get_or starts q 0 + x) (map copy_row (parts_in mask))) (sym w.1) (in_map copy_row (parts_in mask) q (in_parts_in mask q q-lt w.0)))
 
@@ -162,7 +156,7 @@ module _ {b l offs starts covered ord dest work masks₀ ent₀ : List ℕ} {n m
           let w = map_in copy_row (parts_in mask) (get_or starts q 0 + t) (subst (λ (xs : List ℕ). In (get_or starts q 0 + t) xs) rows x) in
           let r = w.0 in
           let c = copy_there (set_in b) sound p s here r (parts_in_in mask r w.1).1 in
-          let part : q ≡ r = one-part ready.source.indexed q t r (copy_slot (set_in b) p s r) k c.0 w.2 in
+          let part : q ≡ r = one-part source.indexed q t r (copy_slot (set_in b) p s r) k c.0 w.2 in
           let slot : t ≡ copy_slot (set_in b) p s r = omega (arith, w.2, ap (λ (x : ℕ). get_or starts x 0) part) in
           let is : ent (set_in b) q t ≡ ent (set_in b) p s = ap₂ (ent (set_in b)) part slot ∙ sym c.1 in
           ap (λ (x : Entity). slot_in (mesh b) (name x)) is ∙ entity_index (set_in b) sound p s here i in_mesh entity
@@ -174,7 +168,7 @@ module _ {b l offs starts covered ord dest work masks₀ ent₀ : List ℕ} {n m
           where
             new : j ≡ i → get_or (set masks i v) j 0 ≡ new_set b l j
             new e =
-                let room : i < length masks = omega (arith, now.same_masks, ready.masks_room, ready.source.ordered.few) in
+                let room : i < length masks = omega (arith, now.same_masks, ready.masks_room, source.ordered.few) in
                 ap (λ (x : ℕ). get_or (set masks i v) x 0) e ∙ get_or-set_same masks i v 0 room ∙ new-set v fits done.0 ∙ ap (λ (x : ℕ). new_set b l x) (sym e)
 
             old : j < i → get_or (set masks i v) j 0 ≡ new_set b l j
@@ -187,7 +181,7 @@ module _ {b l offs starts covered ord dest work masks₀ ent₀ : List ℕ} {n m
           where
             new : index_at b q t ≡ i → get_or ent' (get_or starts q 0 + t) 0 ≡ index_at b q t
             new e =
-                let room : get_or starts q 0 + t < length ent = omega (arith, row_there ready.source.indexed q t l', now.same-ent, ready.ent_room) in
+                let room : get_or starts q 0 + t < length ent = omega (arith, row_there source.indexed q t l', now.same-ent, ready.ent_room) in
                 ap (λ (xs : List ℕ). get_or xs (get_or starts q 0 + t) 0) done.1
                 ∙ numbered_in i ent (g ∷ other_rows b starts o) (get_or starts q 0 + t) room (row_in q t l' e) ∙ sym e
 

@@ -7,19 +7,19 @@ use mathlib.Core.List.{List, ◌∷◌}
 use lib.ListN.{length, get_or, set, drop, length-set}
 use lib.Bits.{bit_or}
 use Rattle.field.specs.Bytes.{u32_at, u64_at}
-use Rattle.part_set.specs.Masks.{parts_in, lowest_of, Rest}
+use Rattle.part_set.specs.Masks.{parts_in, Rest, Turn}
 use Rattle.part_set.proofs.Walk.{parts_none}
 use Rattle.homes.specs.CopyRows.{copy_rows, joined, numbered, other_rows, CopiesThere, EntityThere}
 
 -- what a turn reads and writes is there: the slot in part q, which names row g
-pub record Turn (b starts : List ℕ) (at q g : ℕ) (work ent : List ℕ) : Type 0 where
+pub record Reads (b starts : List ℕ) (at q g : ℕ) (work ent : List ℕ) : Type 0 where
   pub slot : at + 4 ≤ length b
   pub part : q < length starts
   pub word : g < length work
   pub entry : g < length ent
 
 module _ {b starts : List ℕ} {at : ℕ} {work ent : List ℕ} (q : ℕ) (rs : List ℕ) (there : CopiesThere b starts at (q ∷ rs) work ent) where
-  first_turn : Turn b starts at q (get_or starts q 0 + u32_at b at) work ent
+  first_turn : Reads b starts at q (get_or starts q 0 + u32_at b at) work ent
   unfolding copy_rows
   first_turn =
       let w = there.rows (get_or starts q 0 + u32_at b at) (inl refl) in
@@ -45,15 +45,12 @@ module _ {b starts : List ℕ} {from others own i : ℕ} {work ent₀ : List ℕ
   walking_none t = record { there = t; union = refl; entries = refl; same = refl }
 
   module _ {ent : List ℕ} {left at all : ℕ} (now : Walking b starts from others own i work ent₀ ent left at all) where
-    module _ {q r : ℕ} (least : q ≡ lowest_of left) (rest : Rest left r) where
-      parts : parts_in left ≡ q ∷ parts_in r
-      parts = rest.parts ∙ ap (λ (x : ℕ). x ∷ parts_in r) (sym least)
-
+    module _ {q r : ℕ} (turn : Turn left q r) where
       there' : CopiesThere b starts at (q ∷ parts_in r) work ent
-      there' = subst (λ (rs : List ℕ). CopiesThere b starts at rs work ent) parts now.there
+      there' = subst (λ (rs : List ℕ). CopiesThere b starts at rs work ent) turn.parts now.there
 
-      pub walking-turn : (g : ℕ) → g ≡ get_or starts q 0 + u32_at b at → Turn b starts at q g work ent
-      walking-turn g e = subst (λ (x : ℕ). Turn b starts at q x work ent) (sym e) (first_turn q (parts_in r) there')
+      pub walking-turn : (g : ℕ) → g ≡ get_or starts q 0 + u32_at b at → Reads b starts at q g work ent
+      walking-turn g e = subst (λ (x : ℕ). Reads b starts at q x work ent) (sym e) (first_turn q (parts_in r) there')
 
       pub walking_more : (g v : ℕ) → g ≡ get_or starts q 0 + u32_at b at → v ≡ bit_or all (get_or work g 0)
           → Walking b starts from others own i work ent₀ (set ent g i) r (at + 4) v
@@ -61,9 +58,9 @@ module _ {b starts : List ℕ} {from others own i : ℕ} {work ent₀ : List ℕ
       walking_more g v e f = record {
         there = later_turns q (parts_in r) there' g i;
         union = ap (λ (x : ℕ). joined work x (copy_rows b starts (at + 4) (parts_in r))) (f ∙ ap (λ (x : ℕ). bit_or all (get_or work x 0)) e)
-            ∙ ap (λ (rs : List ℕ). joined work all (copy_rows b starts at rs)) (sym parts) ∙ now.union;
+            ∙ ap (λ (rs : List ℕ). joined work all (copy_rows b starts at rs)) (sym turn.parts) ∙ now.union;
         entries = ap (λ (x : ℕ). numbered i (set ent x i) (copy_rows b starts (at + 4) (parts_in r))) e
-            ∙ ap (λ (rs : List ℕ). numbered i ent (copy_rows b starts at rs)) (sym parts) ∙ now.entries;
+            ∙ ap (λ (rs : List ℕ). numbered i ent (copy_rows b starts at rs)) (sym turn.parts) ∙ now.entries;
         same = length-set ent g i ∙ now.same;
       }
 

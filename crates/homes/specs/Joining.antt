@@ -5,11 +5,10 @@ use Rattle.paper.specs.Placement.{WellPlaced}
 use Rattle.index.specs.Index.{set_in, max_rows}
 use Rattle.residence.specs.Tables.{Covers}
 use Rattle.marks.specs.Closures.{part_marks}
-use Rattle.plan.specs.Plan.{mesh, placing, Sourced, Destined}
+use Rattle.plan.specs.Plan.{mesh, placing, Destined}
 
 -- the words of the rows have the bits of the objects of their part, and there is room for the tables
-pub record Joinable (b l offs starts covered ord dest work masks ent : List ℕ) (n m : ℕ) : Type 0 where
-  pub source : Sourced b offs starts ord n m
+pub record Joinable (b l starts covered dest work masks ent : List ℕ) (n : ℕ) : Type 0 where
   pub covers : Covers b starts covered
   pub destined : Destined b l starts covered dest
   pub well : WellPlaced n (mesh b) (placing b l)

@@ -9,6 +9,7 @@ use mathlib.Core.Bool.{false}
 use mathlib.Core.Logic.{⊎_elim}
 use mathlib.Core.List.{List, [], map}
 use mathlib.Core.Option.{none}
+use Rattle.std.specs.Prelude.{Option, Some, None, Result, Ok, Err}
 use lib.ListN.{length, get_or, drop}
 use lib.Dec.{T, ltb→lt}
 use Rattle.laws.specs.Lists.{member}
@@ -18,30 +19,26 @@ use Rattle.field.specs.Bytes.{u8_at}
 use Rattle.paper.specs.Image.{Row, no_row, walk_parts, row_at}
 use Rattle.paper.specs.Sound.{name_of_row, ordered}
 use Rattle.paper.specs.declared.Slot.{Slot}
-use Rattle.index.specs.declared.Walked.{Walked}
-use Rattle.index.specs.declared.Walked.TheVariants.{Rows, Bad}
-use Rattle.index.specs.declared.Found.{Found}
-use Rattle.index.specs.declared.Found.TheVariants.{At, Absent}
 use Rattle.index.specs.Index.{set_in, max_rows, Indexed, Named}
 use Rattle.index.specs.Walk.{Whole, Answered, WalkDone}
 use Rattle.index.specs.Find.{Searchable, Hit, Miss, Sought}
 
 -- ---- the cases
 
-module _ {b offs starts keys offs' starts' keys' : List ℕ} {w : Walked} (d : WalkDone b offs starts keys offs' starts' keys' w) where
-  pub whole : {total : ℕ} → w ≡ Rows total → Whole b offs' starts' keys' total
+module _ {b offs starts keys offs' starts' keys' : List ℕ} {w : Option ℕ} (d : WalkDone b offs starts keys offs' starts' keys' w) where
+  pub whole : {total : ℕ} → w ≡ Some total → Whole b offs' starts' keys' total
   unfolding Answered
   whole e = rw e at d.answer
 
-  pub not_whole : w ≡ Bad → walk_parts (u8_at b 5) (drop 8 b) ≡ none
+  pub not_whole : w ≡ None → walk_parts (u8_at b 5) (drop 8 b) ≡ none
   unfolding Answered
   not_whole e = rw e at d.answer
 
-pub hit : {keys starts : List ℕ} {p x : ℕ} (r : Found) (s : Slot) → r ≡ At s → Sought keys starts p x r → Hit keys starts p x s.0
+pub hit : {keys starts : List ℕ} {p x : ℕ} (r : Result Slot Slot) (s : Slot) → r ≡ Ok s → Sought keys starts p x r → Hit keys starts p x s.0
 unfolding Sought
 hit r s e a = rw e at a
 
-pub miss : {keys starts : List ℕ} {p x : ℕ} (r : Found) (s : Slot) → r ≡ Absent s → Sought keys starts p x r → Miss keys starts p x s.0
+pub miss : {keys starts : List ℕ} {p x : ℕ} (r : Result Slot Slot) (s : Slot) → r ≡ Err s → Sought keys starts p x r → Miss keys starts p x s.0
 unfolding Sought
 miss r s e a = rw e at a
 

@@ -1,27 +1,32 @@
 -- The head's number, test by test, and what a head that passes says. Assumes nothing.
 use Prim.Native.Nat.{ℕ, suc, ◌<◌, ◌≤◌}
-use native.Mathlib.Nat.{not-suc-le-zero, le_of_suc-le-suc}
 use native.Mathlib.Omega.{arith}
-use mathlib.Core.Path.{◌≡◌, refl}
-use mathlib.Core.Bool.{Bool, true, false, ◌&&◌, cond}
+use mathlib.Core.Path.{◌≡◌, refl, sym, ◌∙◌, subst}
+use mathlib.Core.Bool.{Bool, true, false, cond}
 use mathlib.Core.List.{List, [], ◌∷◌}
-use lib.ListN.{length, get_or}
-use lib.Dec.{leb, ltb, eqb, leb→le, ltb→lt}
+use lib.ListN.{length, take}
+use lib.Dec.{T, leb, ltb, eqb, leb→le}
 use borrow.Author.Tests.{le-leb, lt-leb, eq-eqb, ne_eqb, leb-true, eqb-true}
 use Rattle.laws.specs.Lists.{same}
-use Rattle.laws.proofs.Tests.{split3, true_T, and_three}
+use Rattle.std.specs.Prelude.{nat_eq}
+use Rattle.std.specs.Cmp.Lexicographic.{pointwise, bytes_decides}
+use Rattle.laws.proofs.Same.{same_eq, same_refl}
+use Rattle.laws.proofs.Tests.{split3, true_T, T_true, iff_eq}
 use Rattle.field.specs.Bytes.{u8_at, u16_at}
 use Rattle.paper.specs.Sound.{max_image}
 use Rattle.paper.specs.Sound.{marked, parts_counted}
 use Rattle.index.specs.Head.{head_number}
 
--- the mark is three bytes
-pub mark_bytes : (b : List ℕ) → 8 ≤ length b → (eqb (get_or b 0 0) 68 && eqb (get_or b 1 0) 77 && eqb (get_or b 2 0) 80) ≡ marked b
-unfolding marked same
-mark_bytes [] h = absurd (not-suc-le-zero h)
-mark_bytes (x ∷ []) h = absurd (not-suc-le-zero (le_of_suc-le-suc h))
-mark_bytes (x ∷ y ∷ []) h = absurd (not-suc-le-zero (le_of_suc-le-suc (le_of_suc-le-suc h)))
-mark_bytes (x ∷ y ∷ z ∷ b) h = and_three (eqb x 68) (eqb y 77) (eqb z 80)
+-- the mark, as `starts_with` reads it
+pub mark_read : (b : List ℕ) {r : Bool} → r ≡ pointwise nat_eq (68 ∷ 77 ∷ 80 ∷ []) (take 3 b) → r ≡ marked b
+unfolding marked
+mark_read b e =
+    let mark : List ℕ = 68 ∷ 77 ∷ 80 ∷ [] in
+    let same_is = bytes_decides mark (take 3 b) in
+    e
+    ∙ iff_eq (pointwise nat_eq mark (take 3 b)) (same (take 3 b) mark)
+    (λ t. subst (λ (l : List ℕ). T (same (take 3 b) l)) (sym (same_is.0 (T_true (pointwise nat_eq mark (take 3 b)) t))) (same_refl (take 3 b)))
+    (λ t. true_T (pointwise nat_eq mark (take 3 b)) (same_is.1 (sym (same_eq (take 3 b) mark t))))
 
 -- ---- each answer
 
@@ -83,10 +88,6 @@ headed b e =
       version = eqb-true (u16_at b 3) 1 e₄.0;
       parts = e₅.0;
     }
-
-pub parts_some : (b : List ℕ) → Headed b → 0 < u8_at b 5
-unfolding parts_counted
-parts_some b h = ltb→lt 0 (u8_at b 5) (split3 (ltb 0 (u8_at b 5)) (leb (u8_at b 5) 64) (eqb (u16_at b 6) 0) (true_T _ h.parts)).0
 
 pub parts_few : (b : List ℕ) → Headed b → u8_at b 5 ≤ 64
 unfolding parts_counted

@@ -5,5 +5,5 @@ pub mod Tables
 pub mod RowTurn
 pub mod PartTurn
 pub mod Cut
-pub mod Halves
+pub mod Searched
 pub mod Answers

@@ -8,14 +8,12 @@ use mathlib.Core.Path.{◌≡◌, refl, sym, ap, ◌∙◌}
 use mathlib.Core.List.{List, [], ◌∷◌, ◌++◌, map, map-append}
 use lib.ListN.{length, drop, set, length-set, length-append, length-map}
 use lib.Seq.{sets}
+use Rattle.std.specs.Prelude.{Option, Some, None}
 use borrow.Author.Tests.{le-leb, lt-leb}
 use Rattle.laws.specs.Lists.{flat}
 use Rattle.field.specs.Bytes.{u8_at, u32_at}
 use Rattle.paper.specs.Image.{walk_parts}
 use Rattle.paper.specs.Sound.{max_image}
-use Rattle.index.specs.declared.End.{End}
-use Rattle.index.specs.declared.End.TheVariants.{At, Over}
-use Rattle.index.specs.declared.Walked.TheVariants.{Rows, Bad}
 use Rattle.index.specs.Index.{max_rows}
 use Rattle.index.specs.Places.{name_from, rows_end, row_offs, part_end, parts_end, part_offs, starts_of}
 use Rattle.index.specs.Walk.{end_in, RowsWalked, Walkable, Answered, WalkDone}
@@ -25,11 +23,11 @@ use Rattle.index.proofs.Tables.{walk_found, total_is, indexed, named}
 
 -- ---- what an answer of `walk_rows` tells
 
-pub ended_at : (len e to : ℕ) → At to ≡ end_in len e → (e ≡ to) × (e ≤ len)
-ended_at len e to q = elim (dec_le e len) [ yes h ↦ (let k : At to ≡ At e = simp (le-leb e len h) at q in cc, h) | no h ↦ (let k : At to ≡ Over = simp (lt-leb e len (lt_of_not-le h)) at q in let z : ◌≡◌ {A = ℕ} 0 1 = cc in absurd (omega arith)) ]
+pub ended_at : (len e to : ℕ) → Some to ≡ end_in len e → (e ≡ to) × (e ≤ len)
+ended_at len e to q = elim (dec_le e len) [ yes h ↦ (let k : Some to ≡ Some e = simp (le-leb e len h) at q in cc, h) | no h ↦ (let k : Some to ≡ None = simp (lt-leb e len (lt_of_not-le h)) at q in let z : ◌≡◌ {A = ℕ} 0 1 = cc in absurd (omega arith)) ]
 
-pub ended_over : (len e : ℕ) → Over ≡ end_in len e → len < e
-ended_over len e q = elim (dec_le e len) [ yes h ↦ (let k : Over ≡ At e = simp (le-leb e len h) at q in let z : ◌≡◌ {A = ℕ} 0 1 = cc in absurd (omega arith)) | no h ↦ lt_of_not-le h ]
+pub ended_over : (len e : ℕ) → None ≡ end_in len e → len < e
+ended_over len e q = elim (dec_le e len) [ yes h ↦ (let k : None ≡ Some e = simp (le-leb e len h) at q in let z : ◌≡◌ {A = ℕ} 0 1 = cc in absurd (omega arith)) | no h ↦ lt_of_not-le h ]
 
 -- ---- lists
 
@@ -55,7 +53,6 @@ pub record Fixed (b : List ℕ) (n : ℕ) (offs₀ starts₀ keys₀ : List ℕ)
 -- what is left to do from here gives what was to be done from the start
 pub record PartsInv (b : List ℕ) (n : ℕ) (offs₀ starts₀ keys₀ offs starts keys : List ℕ) (p o r : ℕ) : Type 0 where
   pub fixed : Fixed b n offs₀ starts₀ keys₀
-  pub within : p ≤ n
   pub scaled : 48 * r ≤ o
   pub inside : o ≤ length b
   pub same_offs : length offs ≡ length offs₀
@@ -86,7 +83,6 @@ module _ {b : List ℕ} {n : ℕ} {offs₀ starts₀ keys₀ : List ℕ} where
       let e : n - 0 ≡ n = omega arith in
       record {
         fixed = f;
-        within = omega arith;
         scaled = omega arith;
         inside = f.long;
         same_offs = refl;
@@ -102,7 +98,7 @@ module _ {b : List ℕ} {n : ℕ} {offs₀ starts₀ keys₀ : List ℕ} where
   module _ (offs starts keys : List ℕ) (p o r : ℕ) (v : PartsInv b n offs₀ starts₀ keys₀ offs starts keys p o r) where
     -- the parts do not fill the image
     bad : {offs' starts' keys' : List ℕ} → length offs' ≡ length offs → length starts' ≡ length starts → length keys' ≡ length keys
-        → (parts_end n b 8 ≡ length b → ⊥) → WalkDone b offs₀ starts₀ keys₀ offs' starts' keys' Bad
+        → (parts_end n b 8 ≡ length b → ⊥) → WalkDone b offs₀ starts₀ keys₀ offs' starts' keys' None
     unfolding Answered
     bad so ss sk h = record {
       same_offs = so ∙ v.same_offs;
@@ -111,8 +107,8 @@ module _ {b : List ℕ} {n : ℕ} {offs₀ starts₀ keys₀ : List ℕ} where
       answer = ap (λ (k : ℕ). walk_parts k (drop 8 b)) (sym v.fixed.is) ∙ parts_short n b 8 v.fixed.long h;
     }
 
-    pub parts_step : (count to : ℕ) (offs' keys' : List ℕ) (a : End) → p < n → count ≡ u32_at b o → RowsWalked b r count (o + 4) offs keys offs' keys' a
-        → a ≡ At to → length offs' ≡ length offs → length keys' ≡ length keys
+    pub parts_step : (count to : ℕ) (offs' keys' : List ℕ) (a : Option ℕ) → p < n → count ≡ u32_at b o → RowsWalked b r count (o + 4) offs keys offs' keys' a
+        → a ≡ Some to → length offs' ≡ length offs → length keys' ≡ length keys
         → PartsInv b n offs₀ starts₀ keys₀ offs' (set starts p r) keys' (p + 1) to (r + count)
     unfolding parts_end part_offs starts_of flat
     parts_step count to offs' keys' a h ec w at so sk =
@@ -122,7 +118,6 @@ module _ {b : List ℕ} {n : ℕ} {offs₀ starts₀ keys₀ : List ℕ} where
         let km : length (map (name_from b) (row_offs count b (o + 4))) ≡ count = length-map (row_offs count b (o + 4)) (name_from b) ∙ k in
         record {
           fixed = v.fixed;
-          within = omega arith;
           scaled = omega (arith, v.scaled, q.0, rows_end_room count b (o + 4));
           inside = omega (arith, q);
           same_offs = so ∙ v.same_offs;
@@ -137,30 +132,29 @@ module _ {b : List ℕ} {n : ℕ} {offs₀ starts₀ keys₀ : List ℕ} where
 
     -- a part that ends past the image
     module _ (h : p < n) {offs' starts' keys' : List ℕ} (so : length offs' ≡ length offs) (ss : length starts' ≡ length starts) (sk : length keys' ≡ length keys) where
-      past : (e : ℕ) → e ≤ part_end b o → length b < e → WalkDone b offs₀ starts₀ keys₀ offs' starts' keys' Bad
+      past : (e : ℕ) → e ≤ part_end b o → length b < e → WalkDone b offs₀ starts₀ keys₀ offs' starts' keys' None
       unfolding parts_end
       past e le g =
           let l : length b < parts_end n b 8 = omega (arith, rw (sub_step n p h) at v.ends, parts_end_room (n - (p + 1)) b (part_end b o)) in
           bad so ss sk (λ q. omega arith)
 
-      pub parts_cut : length b < o + 4 → WalkDone b offs₀ starts₀ keys₀ offs' starts' keys' Bad
+      pub parts_cut : length b < o + 4 → WalkDone b offs₀ starts₀ keys₀ offs' starts' keys' None
       parts_cut g = past (o + 4) (omega (arith, rows_end_room (u32_at b o) b (o + 4))) g
 
-      pub parts-over : (count : ℕ) → count ≡ u32_at b o → length b < rows_end count b (o + 4) → WalkDone b offs₀ starts₀ keys₀ offs' starts' keys' Bad
+      pub parts-over : (count : ℕ) → count ≡ u32_at b o → length b < rows_end count b (o + 4) → WalkDone b offs₀ starts₀ keys₀ offs' starts' keys' None
       parts-over count ec g = past (part_end b o) (omega arith) (rw ec at g)
 
-    pub parts_unfilled : {starts' : List ℕ} → length starts' ≡ length starts → n ≤ p → (o ≡ length b → ⊥) → WalkDone b offs₀ starts₀ keys₀ offs starts' keys Bad
+    pub parts_unfilled : {starts' : List ℕ} → length starts' ≡ length starts → p ≡ n → (o ≡ length b → ⊥) → WalkDone b offs₀ starts₀ keys₀ offs starts' keys None
     unfolding parts_end
-    parts_unfilled ss h q =
-        let z : n - p ≡ 0 = omega (arith, v.within) in
+    parts_unfilled ss s q =
+        let z : n - p ≡ 0 = omega arith in
         let a : o ≡ parts_end n b 8 = rw z at v.ends in
         bad refl ss refl (λ e. q (a ∙ e))
 
-    pub parts_done : n ≤ p → o ≡ length b → WalkDone b offs₀ starts₀ keys₀ offs (set starts n r) keys (Rows r)
+    pub parts_done : p ≡ n → o ≡ length b → WalkDone b offs₀ starts₀ keys₀ offs (set starts n r) keys (Some r)
     unfolding parts_end part_offs starts_of flat Answered
-    parts_done h q =
-        let z : n - p ≡ 0 = omega (arith, v.within) in
-        let s : p ≡ n = omega (arith, v.within) in
+    parts_done s q =
+        let z : n - p ≡ 0 = omega arith in
         let a : o ≡ parts_end n b 8 = rw z at v.ends in
         let f = v.fixed in
         let full : parts_end n b 8 ≡ length b = sym a ∙ q in

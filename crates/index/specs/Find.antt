@@ -1,20 +1,12 @@
 -- The search of a name among the names of a part, which ascend. Assumes nothing.
-use Rattle.std.specs.Prelude.{ℕ, ◌+◌, ◌≤◌, ◌<◌, ◌≡◌, List, length, get_or}
-use Rattle.index.specs.declared.Found.{Found}
-use Rattle.index.specs.declared.Found.TheVariants.{At, Absent}
+use Rattle.std.specs.Prelude.{ℕ, ◌+◌, ◌≤◌, ◌<◌, ◌≡◌, List, length, get_or, Result, Ok, Err}
+use Rattle.paper.specs.declared.Slot.{Slot}
 
 -- the keys from first to last ascend strictly
 pub record Sorted (keys : List ℕ) (first last : ℕ) : Type 0 where
   pub order : first ≤ last
   pub room : last ≤ length keys
   pub ascends : (i j : ℕ) → first ≤ i → i < j → j < last → get_or keys i 0 < get_or keys j 0
-
--- i is the first of them that is not below x, or last
-pub record Lower (keys : List ℕ) (first last x i : ℕ) : Type 0 where
-  pub from : first ≤ i
-  pub to : i ≤ last
-  pub below : (j : ℕ) → first ≤ j → j < i → get_or keys j 0 < x
-  pub above : (j : ℕ) → i ≤ j → j < last → x ≤ get_or keys j 0
 
 -- part p is there, and its keys ascend
 pub record Searchable (keys starts : List ℕ) (p : ℕ) : Type 0 where
@@ -33,6 +25,6 @@ pub record Miss (keys starts : List ℕ) (p x s : ℕ) : Type 0 where
   pub above : (t : ℕ) → s ≤ t → get_or starts p 0 + t < get_or starts (p + 1) 0 → x < get_or keys (get_or starts p 0 + t) 0
 
 -- what an answer says
-unfoldable pub Sought : List ℕ → List ℕ → ℕ → ℕ → Found → Type 0
-Sought keys starts p x (At s) = Hit keys starts p x s.0
-Sought keys starts p x (Absent s) = Miss keys starts p x s.0
+unfoldable pub Sought : List ℕ → List ℕ → ℕ → ℕ → Result Slot Slot → Type 0
+Sought keys starts p x (Ok s) = Hit keys starts p x s.0
+Sought keys starts p x (Err s) = Miss keys starts p x s.0

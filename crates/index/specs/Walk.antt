@@ -1,5 +1,5 @@
 -- What the walk of an image wants and leaves. Assumes nothing.
-use Rattle.std.specs.Prelude.{ℕ, ◌+◌, ◌*◌, ◌≤◌, ◌<◌, ◌≡◌, cond, List, map, length, drop, leb}
+use Rattle.std.specs.Prelude.{ℕ, ◌+◌, ◌*◌, ◌≤◌, ◌<◌, ◌≡◌, cond, Option, Some, None, List, map, length, drop, leb}
 use Rattle.std.proofs.Math.Option.{none, some}
 use Rattle.std.proofs.lemmas.List.Edits.{sets}
 use Rattle.field.specs.Bytes.{u8_at}
@@ -8,10 +8,6 @@ use Rattle.paper.specs.Sound.{max_image}
 use Rattle.index.specs.Index.{set_in, max_rows, Indexed, Named}
 use Rattle.index.specs.Head.{head_number}
 use Rattle.index.specs.Places.{name_from, rows_end, row_offs}
-use Rattle.index.specs.declared.End.{End}
-use Rattle.index.specs.declared.End.TheVariants.{At, Over}
-use Rattle.index.specs.declared.Walked.{Walked}
-use Rattle.index.specs.declared.Walked.TheVariants.{Rows, Bad}
 
 -- ---- the rows of a part
 
@@ -25,11 +21,11 @@ pub record RowsAhead (b offs keys : List ℕ) (r count o : ℕ) : Type 0 where
   pub inside : o ≤ length b
 
 -- an end within an image of len bytes, or past it
-abbrev pub end_in : ℕ → ℕ → End
-end_in len e = cond (leb e len) (At e) Over
+abbrev pub end_in : ℕ → ℕ → Option ℕ
+end_in len e = cond (leb e len) (Some e) None
 
 -- the tables after these rows, where they end within the image
-pub record RowsWalked (b : List ℕ) (r count o : ℕ) (offs keys offs' keys' : List ℕ) (e : End) : Type 0 where
+pub record RowsWalked (b : List ℕ) (r count o : ℕ) (offs keys offs' keys' : List ℕ) (e : Option ℕ) : Type 0 where
   pub answer : e ≡ end_in (length b) (rows_end count b o)
   pub offs_filled : rows_end count b o ≤ length b → offs' ≡ sets offs r (row_offs count b o)
   pub keys_filled : rows_end count b o ≤ length b → keys' ≡ sets keys r (map (name_from b) (row_offs count b o))
@@ -51,11 +47,11 @@ pub record Whole (b offs starts keys : List ℕ) (total : ℕ) : Type 0 where
   pub rows : total ≡ row_total (set_in b)
 
 -- what an answer says
-unfoldable pub Answered : List ℕ → List ℕ → List ℕ → List ℕ → Walked → Type 0
-Answered b offs starts keys (Rows total) = Whole b offs starts keys total
-Answered b offs starts keys Bad = walk_parts (u8_at b 5) (drop 8 b) ≡ none
+unfoldable pub Answered : List ℕ → List ℕ → List ℕ → List ℕ → Option ℕ → Type 0
+Answered b offs starts keys (Some total) = Whole b offs starts keys total
+Answered b offs starts keys None = walk_parts (u8_at b 5) (drop 8 b) ≡ none
 
-pub record WalkDone (b offs starts keys offs' starts' keys' : List ℕ) (w : Walked) : Type 0 where
+pub record WalkDone (b offs starts keys offs' starts' keys' : List ℕ) (w : Option ℕ) : Type 0 where
   pub same_offs : length offs' ≡ length offs
   pub same_starts : length starts' ≡ length starts
   pub same_keys : length keys' ≡ length keys

@@ -2,17 +2,11 @@
 // 65,536 bytes.
 #![tactic(auto)]
 
-use text::Written;
-
 fn main(rt: HostRuntime) {
     let mut image = [0u8; 65537];
     let read = files::read_full(&mut rt.stdin(), &mut image);
     let mut out = [0u8; 262144];
-    let written = text::write_listing(&image[..read], &mut out);
-    match written {
-        Written::Bytes(count) => {
-            let _ = rt.write_all(&out[..count]);
-        }
-        Written::Short => {}
+    if let Some(count) = text::write_listing(&image[..read], &mut out) {
+        let _ = rt.write_all(&out[..count]);
     }
 }

@@ -1,5 +1,4 @@
 -- Lemmas on plain values, for the proofs of this crate.
-pub mod Zeros
 pub mod Words
 pub mod Rows
 pub mod Closing

@@ -55,9 +55,6 @@ unfolding some? up_to from
 part_start b starts covered dest p w₀ c = record { few = omega arith; marks = mark_none w₀; closed = c }
 
 module _ {b offs starts covered dest w₀ : List ℕ} (pl : Placed b offs starts covered dest w₀) (p : ℕ) (hp : p < length (set_in b)) where
-  pub part_asked : (p + 1 < length starts) × (get_or starts p 0 ≤ get_or starts (p + 1) 0)
-  part_asked = (omega (arith, pl.readable.index.few, pl.readable.index.starts_room), omega (arith, pl.readable.index.next p hp))
-
   module _ (count : ℕ) (ec : count ≡ get_or starts (p + 1) 0 - get_or starts p 0) where
     is_count : count ≡ length (get_or (set_in b) p [])
     is_count = ec ∙ part-rows pl.readable.index p hp

@@ -2,53 +2,68 @@
 // the last refusal is past.
 #![tactic(auto)]
 
+ghost use Rattle.std.specs.Prelude.{◌≡◌};
+ghost use Rattle.rows.specs.Tables.{set_of};
+ghost use Rattle.paper.specs.Move.{migrated, sizes_of};
 ghost use Rattle.paper.specs.Promises.{Migrates};
-ghost use Rattle.sizing.specs.Sizing.{SizesUp};
-ghost use Rattle.migrate.specs.Delivery.{Delivers};
+ghost use Rattle.plan.specs.Plan.{Prepared};
+ghost use Rattle.migrate.specs.Delivery.{Delivers, numbers_of};
 
-use paper::{MigrateAnswer, Refusal};
-use sizing::Sizing;
+use paper::{MigrateAnswer, Moved, Unplaced};
+use plan::{Plan, Source};
+use rows::Tables;
+use sizing::Fits;
 
-// What sizing refuses, refusal 19, or the new image written and its numbers answered. The contract alone reads `words`, those of the working
-// buffer.
-fn deliver(
-    image: &[u8],
-    list: &[u8],
-    offs: &[u32],
-    starts: &[u32],
-    ord: &[u32],
-    ent: &[u32],
-    masks: &[u64],
-    counts: &[u32],
-    sizing: Sizing,
-    words: usize,
-    out: &mut [u8],
-) -> MigrateAnswer
-    requires { SizesUp image.now list.now offs.now starts.now ord.now ent.now masks.now counts.now words sizing }
-    ensures { Delivers image.now list.now words out.old result out.new }
+// The plan that the tables of sizing make. Each table is lent by itself: a struct of one lifetime takes no mix of locals and arguments.
+fn plan_of<'a>(
+    image: &'a [u8],
+    list: &'a [u8],
+    offs: &'a [u32],
+    starts: &'a [u32],
+    ord: &'a [u32],
+    ent: &'a [u32],
+    masks: &'a [u64],
+    counts: &'a [u32],
+    fits: &Fits,
+) -> Plan<'a>
+    requires { Prepared image.now list.now offs.now starts.now ord.now ent.now masks.now counts.now fits.now.parts fits.now.entities }
+    ensures image { result.source.tables.image.now ≡ image.now }
+    ensures list { result.list.now ≡ list.now }
 {
-    match sizing {
-        Sizing::Refused(r) => MigrateAnswer::Refused(r),
-        Sizing::Fits {
-            parts,
-            entities,
-            bytes,
-            rows,
-            moved,
-        } => {
-            if bytes > out.len() {
-                return MigrateAnswer::Refused(Refusal::nowhere(19));
-            }
-            output::write(
-                image, list, offs, starts, ord, ent, masks, counts, parts, entities, out,
-            );
-            MigrateAnswer::Moved {
-                length: bytes as u32,
-                rows: rows as u32,
-                moved: moved,
-            }
-        }
+    let tables = Tables {
+        image,
+        offs,
+        starts,
+        parts: fits.parts,
+    };
+    let source = Source {
+        tables,
+        ord,
+        entities: fits.entities,
+    };
+    Plan {
+        source,
+        list,
+        ent,
+        masks,
+        counts,
     }
+}
+
+// Refusal 19, or the new image written and its numbers answered.
+fn deliver(plan: &Plan, fits: &Fits, out: &mut [u8]) -> MigrateAnswer
+    requires { sizes_of (migrated (set_of plan.now.source.tables) plan.now.list.now) ≡ numbers_of fits.now }
+    ensures { Delivers (migrated (set_of plan.now.source.tables) plan.now.list.now) out.old result out.new }
+{
+    if fits.bytes > out.len() {
+        return Err(Unplaced::OutputTooShort.into());
+    }
+    output::write(plan, out);
+    Ok(Moved {
+        length: fits.bytes as u32,
+        rows: fits.rows as u32,
+        moved: fits.moved,
+    })
 }
 
 // An image moved by a list: the new image in `out`, with the answer's numbers, or a refusal and `out` as it came. All words of `work` are
@@ -75,17 +90,9 @@ pub fn migrate(image: &[u8], list: &[u8], out: &mut [u8], work: &mut [u64]) -> M
         &mut counts,
     );
     marks::clear(work);
-    deliver(
-        image,
-        list,
-        &offs,
-        &starts,
-        &ord,
-        &ent,
-        &keys,
-        &counts,
-        sized,
-        work.len(),
-        out,
-    )
+    let fits = sized?;
+    let plan = plan_of(
+        image, list, &offs, &starts, &ord, &ent, &keys, &counts, &fits,
+    );
+    deliver(&plan, &fits, out)
 }

@@ -3,19 +3,17 @@ use Prim.Native.Nat.{ℕ, ◌+◌, ◌≤◌, ◌<◌}
 use native.Mathlib.Nat.{eq-or-lt_of_le, lt_trans}
 use native.Mathlib.Omega.{arith}
 use mathlib.Core.Path.{◌≡◌}
-use mathlib.Core.Bool.{Bool}
+use mathlib.Core.Bool.{Bool, true, ◌&&◌}
 use mathlib.Core.Logic.{⊎_elim}
 use mathlib.Core.List.{List}
 use borrow.Author.Count.{below_more}
 use lib.ListN.{get_or}
-use lib.Dec.{T}
-use Rattle.laws.specs.Lists.{flat}
-use Rattle.paper.specs.Image.{Set}
-use Rattle.paper.specs.Mesh.{parts_of, holds}
+use lib.Dec.{T, ltb, eqb, ltb→lt, lt→ltb, eqb→eq}
+use Rattle.laws.proofs.Tests.{both, split2, eq-eqb}
 use Rattle.paper.specs.Move.{entry_name, all_entries}
 use Rattle.merge.specs.Runs.{key_in}
-use Rattle.moves.specs.Catalog.{Listing, Present, Behind, Lower, Catalog}
-use Rattle.moves.proofs.Loops.{AtEntry, start}
+use Rattle.moves.specs.Catalog.{Listing, Present, Uncovered, Behind, Lower}
+use Rattle.moves.specs.Entries.{Ascending, Says}
 
 -- ---- one name is sought
 
@@ -23,15 +21,6 @@ pub behind_none : {keys ord : List ℕ} {count x : ℕ} → Behind keys ord coun
 behind_none = record { to = omega arith; below = λ j g. absurd (omega arith) }
 
 module _ {keys ord : List ℕ} {count x j : ℕ} (b : Behind keys ord count x j) where
-  pub further : j < count → key_in keys (get_or ord j 0) < x → Behind keys ord count x (j + 1)
-  further h t = record { to = omega arith; below = below_more (λ (k : ℕ). key_in keys (get_or ord k 0) < x) j b.below t }
-
-  pub arrived : x ≤ key_in keys (get_or ord j 0) → Lower keys ord count x j
-  arrived t = record { behind = b; above = λ h. t }
-
-  pub past_all : count ≤ j → Lower keys ord count x j
-  past_all h = record { behind = b; above = λ g. absurd (omega arith) }
-
   -- what is below a name is below a higher one
   pub still_behind : {y : ℕ} → x < y → Behind keys ord count y j
   still_behind h = record { to = b.to; below = λ k g. lt_trans (b.below k g) h }
@@ -46,22 +35,33 @@ module _ {keys ord : List ℕ} {count x j : ℕ} (listing : Listing keys ord cou
   pub found : Present keys ord count x → (j < count) × (key_in keys (get_or ord j 0) ≡ x)
   found w = let e : j ≡ w.0 = place_is w.0 w.1 w.2 in (rw e w.1, rw e w.2)
 
--- a name that is held stands at its lower bound
-pub stands : {S : Set} {keys ord covered : List ℕ} {count x j : ℕ} → Catalog S keys ord covered count → Lower keys ord count x j
-    → T (holds (flat (parts_of S)) x) → (j < count) × (key_in keys (get_or ord j 0) ≡ x)
-stands {x} c v t = found c.listing v (c.all x t)
+-- so the name is there exactly where it is the one at its lower bound
+module _ {keys ord : List ℕ} {count x j : ℕ} (listing : Listing keys ord count) (v : Lower keys ord count x j) where
+  pub present_at : T (ltb j count && eqb (key_in keys (get_or ord j 0)) x) → Present keys ord count x
+  present_at t = let w = split2 (ltb j count) (eqb (key_in keys (get_or ord j 0)) x) t in (j, ltb→lt j count w.0, eqb→eq (key_in keys (get_or ord j 0)) x w.1)
+
+  pub at_present : Present keys ord count x → T (ltb j count && eqb (key_in keys (get_or ord j 0)) x)
+  at_present p = let w = found listing v p in both (ltb j count) (eqb (key_in keys (get_or ord j 0)) x) (lt→ltb j count w.0) (eq-eqb (key_in keys (get_or ord j 0)) x w.1)
+
+-- and whether its row is covered is told there
+pub uncovered_at : (covered : List ℕ) {keys ord : List ℕ} {count x j : ℕ} → Listing keys ord count → Lower keys ord count x j → Uncovered keys ord covered count x
+    → get_or covered (get_or ord j 0) 0 ≡ 0
+uncovered_at covered listing v p = rw (place_is listing v p.0 p.1 p.2) p.3
 
 -- ---- from entry to entry
 
--- none of the entries before i fails, and the cursor has passed nothing that entry i or a later one could name
-pub record Swept (ok : ℕ → Bool) (l keys ord : List ℕ) (count from i : ℕ) : Type 0 where
-  pub at : AtEntry ok (all_entries l) i
+-- the test passes each entry before i, and the cursor has passed nothing that entry i or a later one could name
+pub record Sweeping (l keys ord : List ℕ) (count : ℕ) (test : ℕ → ℕ → Bool → Type 0) (from i : ℕ) : Type 0 where
+  pub passed : (k : ℕ) → k < i → Says l keys ord count test k true
   pub behind : i < all_entries l → Behind keys ord count (entry_name l i) from
 
-module _ {ok : ℕ → Bool} {l keys ord : List ℕ} {count : ℕ} where
-  pub begin : Swept ok l keys ord count 0 0
-  begin = record { at = start; behind = λ h. behind_none }
+module _ {l keys ord : List ℕ} {count : ℕ} {test : ℕ → ℕ → Bool → Type 0} where
+  pub begin : Sweeping l keys ord count test 0 0
+  begin = record { passed = λ k h. absurd (omega arith); behind = λ h. behind_none }
 
-  pub next : {from : ℕ} (i : ℕ) → (i + 1 < all_entries l → entry_name l i < entry_name l (i + 1)) → Lower keys ord count (entry_name l i) from
-      → AtEntry ok (all_entries l) (i + 1) → Swept ok l keys ord count from (i + 1)
-  next i up v a = record { at = a; behind = λ h. still_behind v.behind (up h) }
+  pub next : {from place i : ℕ} → Ascending l → Sweeping l keys ord count test from i → Lower keys ord count (entry_name l i) place → test i place true
+      → Sweeping l keys ord count test place (i + 1)
+  next {place = j} {i = i} list s v t = record {
+    passed = below_more (λ k. Says l keys ord count test k true) i s.passed (j, v, t);
+    behind = λ h. still_behind v.behind (list.up i h);
+  }

@@ -23,14 +23,15 @@ use Rattle.demands.proofs.ForCode.Covered.{row_object}
 use Rattle.index.specs.Index.{set_in, Indexed, Named}
 use Rattle.residence.specs.Tables.{Covers}
 use Rattle.rows.proofs.Laws.{row_there}
-use Rattle.entities.specs.declared.Listed.{Listed}
-use Rattle.entities.specs.LowestCopies.{Entities}
+use Rattle.std.proofs.Common.{Result}
+use Rattle.entities.specs.declared.Repeated.{Repeated}
+use Rattle.entities.specs.LowestCopies.{count_of, Entities}
 use Rattle.entities.proofs.MeshOrder.{EntityAt, entities_mesh, entity_at}
 use Rattle.moves.specs.Catalog.{Listing, Present, Catalog}
 use Rattle.moves.proofs.OpenRows.{row_open}
 
 module _ {b offs starts keys covered : List ℕ} {n : ℕ} (index : Indexed b offs starts n) (named : Named b starts keys) (f : Copied (set_in b))
-    (resides : Each (set_in b) (λ p s. T (resides_well (set_in b) p s))) (covers : Covers b starts covered) {ord tmp ord' tmp' : List ℕ} {r : Listed}
+    (resides : Each (set_in b) (λ p s. T (resides_well (set_in b) p s))) (covers : Covers b starts covered) {ord tmp ord' tmp' : List ℕ} {r : Result ℕ Repeated}
     (e : Entities (set_in b) starts keys ord tmp ord' tmp' n r) where
   one-entity : Uniq (flat (parts_of (set_in b)))
   one-entity g h i j m =
@@ -40,31 +41,31 @@ module _ {b offs starts keys covered : List ℕ} {n : ℕ} (index : Indexed b of
       agree S f v.0 w.0 g h v.2 w.2 m
 
   names : List ℕ
-  names = map (key_in keys) (take r.count ord')
+  names = map (key_in keys) (take (count_of r) ord')
 
-  names_count : length names ≡ r.count
+  names_count : length names ≡ count_of r
   unfolding names
-  names_count = length-map (take r.count ord') (key_in keys) ∙ length-take-le r.count ord' e.within
+  names_count = length-map (take (count_of r) ord') (key_in keys) ∙ length-take-le (count_of r) ord' e.within
 
-  name_is : (i : ℕ) → i < r.count → get_or names i 0 ≡ key_in keys (get_or ord' i 0)
+  name_is : (i : ℕ) → i < count_of r → get_or names i 0 ≡ key_in keys (get_or ord' i 0)
   unfolding names
   name_is i h =
-      let xs = take r.count ord' in
-      let l : i < length xs = omega (arith, length-take-le r.count ord' e.within) in
-      get_or_map (key_in keys) xs i 0 0 l ∙ ap (key_in keys) (get_or-take r.count ord' i 0 h)
+      let xs = take (count_of r) ord' in
+      let l : i < length xs = omega (arith, length-take-le (count_of r) ord' e.within) in
+      get_or_map (key_in keys) xs i 0 0 l ∙ ap (key_in keys) (get_or-take (count_of r) ord' i 0 h)
 
   ascends : T (ascending names)
   unfolding names mesh_of
   ascends = subst (λ (ks : List ℕ). T (ascending ks)) (sym (entities_mesh index named f e)) (sort_ascends (flat (parts_of (set_in b))))
 
-  at : (j : ℕ) → j < r.count → EntityAt (set_in b) starts ord' j
+  at : (j : ℕ) → j < count_of r → EntityAt (set_in b) starts ord' j
   at = entity_at index named f e
 
   -- the key of a place is the name of its row
-  key_is : (j : ℕ) (h : j < r.count) → key_in keys (get_or ord' j 0) ≡ name_of_row (row_at (set_in b) (at j h).part (at j h).slot)
+  key_is : (j : ℕ) (h : j < count_of r) → key_in keys (get_or ord' j 0) ≡ name_of_row (row_at (set_in b) (at j h).part (at j h).slot)
   key_is j h = let w = at j h in ap (key_in keys) w.is ∙ named.key w.part w.slot w.there
 
-  listing : Listing keys ord' r.count
+  listing : Listing keys ord' (count_of r)
   listing = record {
     within = e.within;
     row = λ j h. let w = at j h in omega (arith, w.is, row_there index w.part w.slot w.there, named.room);
@@ -75,7 +76,7 @@ module _ {b offs starts keys covered : List ℕ} {n : ℕ} (index : Indexed b of
   unfolding ent_of row_at
   is_held p s h = let S = set_in b in in_holds (flat (parts_of S)) (ent S p s) (in_flat (parts_of S) p (ent S p s) (in_part_lem S p s h))
 
-  held : (j : ℕ) → j < r.count → T (holds (flat (parts_of (set_in b))) (key_in keys (get_or ord' j 0)))
+  held : (j : ℕ) → j < count_of r → T (holds (flat (parts_of (set_in b))) (key_in keys (get_or ord' j 0)))
   held j h = let w = at j h in subst (λ (k : ℕ). T (holds (flat (parts_of (set_in b))) k)) (sym (key_is j h)) (is_held w.part w.slot w.there)
 
   named_in : (k : ℕ) → T (holds (flat (parts_of (set_in b))) k) → In k names
@@ -86,17 +87,17 @@ module _ {b offs starts keys covered : List ℕ} {n : ℕ} (index : Indexed b of
       subst (λ (ks : List ℕ). In k ks) (sym (entities_mesh index named f e))
       (subst (λ (z : ℕ). In z (map name (mesh_of (parts_of (set_in b))))) (sym w.2) (in_map name (mesh_of (parts_of (set_in b))) w.0 (in_sort es one-entity w.0 w.1)))
 
-  all : (k : ℕ) → T (holds (flat (parts_of (set_in b))) k) → Present keys ord' r.count k
+  all : (k : ℕ) → T (holds (flat (parts_of (set_in b))) k) → Present keys ord' (count_of r) k
   all k t =
       let w = in_get_or names k 0 (named_in k t) in
-      let h : w.0 < r.count = omega (arith, w.1, names_count) in
+      let h : w.0 < count_of r = omega (arith, w.1, names_count) in
       (w.0, h, sym (name_is w.0 h) ∙ sym w.2)
 
   is_object_lem : (p s : ℕ) → s < length (get_or (set_in b) p []) → eqb (get_or covered (get_or starts p 0 + s) 0) 0 ≡ is_object (flat (parts_of (set_in b))) (name_of_row (row_at (set_in b) p s))
   unfolding row_at
   is_object_lem p s h = row_open f covers p s h ∙ sym (row_object (set_in b) f resides p s h)
 
-  pub catalog : Catalog (set_in b) keys ord' covered r.count
+  pub catalog : Catalog (set_in b) keys ord' covered (count_of r)
   catalog = record {
     listing = listing;
     row = λ j h. let w = at j h in omega (arith, w.is, row_there index w.part w.slot w.there, covers.room);

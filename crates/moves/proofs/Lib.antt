@@ -7,3 +7,5 @@ pub mod Judging
 pub mod OpenRows
 pub mod FromTables
 pub mod Stages
+pub mod Ready
+pub mod First

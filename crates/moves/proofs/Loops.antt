@@ -1,35 +1,52 @@
--- The loop that looks for the first entry that fails, on plain values, for any test. Assumes nothing.
-use Prim.Native.Nat.{ℕ, ◌+◌, ◌-◌, ◌≤◌, ◌<◌}
-use native.Mathlib.Numerals.{add-one}
+-- The first entry that breaks a rule, on plain values. Assumes nothing.
+use Prim.Native.Nat.{ℕ, zero, suc, ◌+◌, ◌≤◌, ◌<◌}
 use native.Mathlib.Omega.{arith}
-use mathlib.Core.Path.{◌≡◌, refl, sym, ◌∙◌}
-use mathlib.Core.Bool.{Bool, true, false, not}
-use mathlib.Core.Option.{none, some}
-use borrow.Author.Tests.{not-true, not-false}
+use mathlib.Core.Path.{◌≡◌, refl, sym, subst}
+use mathlib.Core.Bool.{Bool, true, false}
+use mathlib.Core.Option.{some}
+use lib.Dec.{T}
+use mathlib.Core.List.{List}
+use Rattle.std.proofs.Common.{Option, None, Some, MatchOption}
+use Rattle.laws.proofs.Tests.{T_true, no_T}
 use Rattle.laws.specs.Lists.{from, up_to, first_bad}
-use Rattle.laws.proofs.FirstBad.{sub_step}
+use Rattle.paper.specs.Move.{entry_name, all_entries}
+use Rattle.moves.specs.Catalog.{Lower}
+use Rattle.moves.specs.Entries.{FirstBroken, FirstSwept}
 
--- none of those before i fails, and what is left gives the answer
-pub record AtEntry (ok : ℕ → Bool) (n i : ℕ) : Type 0 where
-  pub within : i ≤ n
-  pub left : first_bad ok (from i (n - i)) ≡ first_bad ok (up_to n)
+-- what `find` over 0 .. total says
+pub first_below : (P : ℕ → Type 0) {n total : ℕ} → total ≡ n → (r : Option ℕ)
+    → MatchOption r ((k : ℕ) → 0 ≤ k → k < total → P k) (λ i. (0 ≤ i) × (i < total) × (P i → ⊥) × ((k : ℕ) → 0 ≤ k → k < i → P k)) → FirstBroken P n r
+first_below P e None w = λ k h. w k (omega arith) (omega (arith, h, e))
+first_below P e (Some i) w = (omega (arith, w.1, e), w.2, λ k h. w.3 k (omega arith) h)
 
-module _ {ok : ℕ → Bool} {n : ℕ} where
-  pub start : AtEntry ok n 0
-  unfolding up_to
-  start = record { within = omega arith; left = let z : n - 0 ≡ n = omega arith in rw z refl }
+-- what a sweep says, where its test decides P
+pub first_by_sweep : (P : ℕ → Type 0) {l keys ord : List ℕ} {count : ℕ} {test : ℕ → ℕ → Bool → Type 0} (r : Option ℕ) → FirstSwept l keys ord count test r
+    → ((i j : ℕ) → i < all_entries l → Lower keys ord count (entry_name l i) j → test i j true → P i)
+    → ((i j : ℕ) → i < all_entries l → Lower keys ord count (entry_name l i) j → test i j false → P i → ⊥) → FirstBroken P (all_entries l) r
+first_by_sweep P None w good bad = λ k h. let s = w.found k h in good k s.0 h s.1 s.2
+first_by_sweep P (Some i) w good bad =
+    let f = w.found in (f.0, bad i f.1.0 f.0 f.1.1 f.1.2, λ k h. let s = f.2 k h in good k s.0 (omega (arith, h, f.0)) s.1 s.2)
 
-  pub skip : {i : ℕ} → AtEntry ok n i → i < n → {r : Bool} → r ≡ ok i → not r ≡ false → AtEntry ok n (i + 1)
-  unfolding first_bad from
-  skip {i} at h {r} e kept = let keeps : ok i ≡ true = sym e ∙ not-false r kept in record {
-    within = omega arith;
-    left = rw (add-one i) (rw (sub_step n i h, keeps) at at.left);
-  }
+-- the same of another property
+pub first_with : (P Q : ℕ → Type 0) (n : ℕ) → ((i : ℕ) → i < n → P i → Q i) → ((i : ℕ) → i < n → Q i → P i) → (r : Option ℕ) → FirstBroken P n r → FirstBroken Q n r
+first_with P Q n to back None w = λ i h. to i h (w i h)
+first_with P Q n to back (Some i) w = (w.0, λ q. w.1 (back i w.0 q), λ k h. to k (omega (arith, h, w.0)) (w.2 k h))
 
-  pub hit : {i : ℕ} → AtEntry ok n i → i < n → {r : Bool} → r ≡ ok i → not r ≡ true → some i ≡ first_bad ok (up_to n)
-  unfolding first_bad from
-  hit {i} at h {r} e broken = let breaks : ok i ≡ false = sym e ∙ not-true r broken in rw (sub_step n i h, breaks) at at.left
+-- the first that fails a test is the paper's
+first_from : (ok : ℕ → Bool) (n a i : ℕ) → i < n → ((k : ℕ) → k < i → T (ok (a + k))) → (T (ok (a + i)) → ⊥) → first_bad ok (from a n) ≡ some (a + i)
+unfolding first_bad from
+first_from ok zero a i h before here = absurd (omega arith)
+first_from ok (suc n) a zero h before here = let e : a + 0 ≡ a = omega arith in rw (no_T (ok a) (rw e at here), e) refl
+first_from ok (suc n) a (suc i) h before here =
+    let e : a + 0 ≡ a = omega arith in
+    let z : suc a + i ≡ a + suc i = omega arith in
+    rw (T_true (ok a) (rw e at (before 0 (omega arith))))
+    (subst (λ (k : ℕ). first_bad ok (from (suc a) n) ≡ some k) z
+    (first_from ok n (suc a) i (omega arith) (λ k g. let y : a + suc k ≡ suc a + k = omega arith in rw y at (before (suc k) (omega (arith, g)))) (λ t. here (rw z at t))))
 
-  pub over : {i : ℕ} → AtEntry ok n i → n ≤ i → none ≡ first_bad ok (up_to n)
-  unfolding first_bad from
-  over {i} at h = let z : n - i ≡ 0 = omega arith in rw z at at.left
+pub first_is : (ok : ℕ → Bool) (n i : ℕ) → FirstBroken (λ k. T (ok k)) n (Some i) → first_bad ok (up_to n) ≡ some i
+unfolding up_to
+first_is ok n i w =
+    let e : (k : ℕ) → 0 + k ≡ k = λ k. omega arith in
+    subst (λ (k : ℕ). first_bad ok (from 0 n) ≡ some k) (e i)
+    (first_from ok n 0 i w.0 (λ k h. subst (λ (z : ℕ). T (ok z)) (sym (e k)) (w.2 k h)) (λ t. w.1 (subst (λ (z : ℕ). T (ok z)) (e i) t)))

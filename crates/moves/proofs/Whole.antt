@@ -10,7 +10,7 @@ use Rattle.laws.proofs.Tests.{T_true}
 use Rattle.field.specs.Bytes.{u8_at, u16_at}
 use Rattle.paper.specs.Move.{entry_name, ascends, entry_fitting}
 
-pub first-ascends : (l : List ℕ) (i : ℕ) → i ≡ 0 → true ≡ ascends l i
+pub first-ascends : (l : List ℕ) (i : ℕ) → i ≡ 0 → eqb i 0 ≡ ascends l i
 unfolding ascends
 first-ascends l i e = rw e refl
 

@@ -16,6 +16,10 @@ pub record Listing (keys ord : List ℕ) (count : ℕ) : Type 0 where
 abbrev pub Present : List ℕ → List ℕ → ℕ → ℕ → Type 0
 Present keys ord count x = (j : ℕ) × (j < count) × (key_in keys (get_or ord j 0) ≡ x)
 
+-- the name x has a place, and its row is not covered
+abbrev pub Uncovered : List ℕ → List ℕ → List ℕ → ℕ → ℕ → Type 0
+Uncovered keys ord covered count x = (j : ℕ) × (j < count) × (key_in keys (get_or ord j 0) ≡ x) × (get_or covered (get_or ord j 0) 0 ≡ 0)
+
 -- all before i are below x
 pub record Behind (keys ord : List ℕ) (count x i : ℕ) : Type 0 where
   pub to : i ≤ count

@@ -1,30 +1,45 @@
 // The list of a move: entry i is the eight bytes from 8 i. Its entries are read, and judged by the rules of a list.
 #![tactic(auto)]
 
-ghost use Rattle.std.specs.Prelude.{◌+◌, ◌*◌, ◌≤◌, ◌<◌, ◌≡◌, length};
-ghost use Rattle.laws.specs.Lists.{up_to, first_bad};
-ghost use Rattle.paper.specs.Outcome.{at_entry, refusal};
-ghost use Rattle.paper.specs.Move.{entry_name, entry_part, all_entries, ascends, entry_fitting, number_of_entry, entry_judged};
+ghost use Rattle.std.specs.Prelude.{ℕ, ◌+◌, ◌*◌, ◌≤◌, ◌<◌, ◌≡◌, ◌&&◌, T, ltb, eqb, length, get_or};
+ghost use Rattle.merge.specs.Runs.{key_in};
+ghost use Rattle.paper.specs.Move.{entry_name, entry_part, all_entries, ascends, entry_fitting};
 ghost use Rattle.index.specs.Index.{set_in};
-ghost use Rattle.moves.specs.declared.ListStage.TheVariants.{Stop};
-ghost use Rattle.moves.specs.Entries.{bad_entry, EntryReady, SweepReady};
-ghost use Rattle.moves.specs.Catalog.{Listing, Behind, Lower, Catalog};
+ghost use Rattle.moves.specs.Entries.{Ascending, FirstBroken, FirstSwept, entries_stage};
+ghost use Rattle.moves.specs.Catalog.{Listing, Present, Uncovered, Behind, Lower, Catalog};
 ghost use Rattle.moves.specs.Stages.{ListJudged};
 
 use paper::{EntryRule, Refusal};
 
-// The first entry that fails, if one does.
+// The entities in the order of their names: the first `count` entries of `ord` are their rows, and `keys` has the name of every row.
 #[derive(Clone, Copy)]
-pub enum Bad {
-    None,
-    At(usize),
+pub struct Order<'a> {
+    pub keys: &'a [u64],
+    pub ord: &'a [u32],
+    pub count: usize,
+    ghost listing: { Listing keys.now ord.now count },
 }
 
-// What the list as a whole comes to: a refusal, or all entries pass.
-#[derive(Clone, Copy)]
-pub enum ListStage {
-    Stop(Refusal),
-    Go,
+impl<'a> Order<'a> {
+    // The first place from `from` on whose name is not below `name`, or `count`.
+    pub fn seek(&self, from: usize, name: u64) -> usize
+        requires { Behind self.now.keys.now self.now.ord.now self.now.count name from }
+        ensures { Lower self.now.keys.now self.now.ord.now self.now.count name result }
+    {
+        for j in from..self.count {
+            if self.keys[self.ord[j] as usize] >= name {
+                return j;
+            }
+        }
+        self.count
+    }
+
+    // Is the name at place j?
+    fn is_at(&self, j: usize, name: u64) -> bool
+        ensures { result ≡ (ltb j self.now.count && eqb (key_in self.now.keys.now (get_or self.now.ord.now j 0)) name) }
+    {
+        j < self.count && self.keys[self.ord[j] as usize] == name
+    }
 }
 
 // The name of the entity that entry i moves.
@@ -32,9 +47,7 @@ pub fn name_of(list: &[u8], i: usize) -> u64
     requires { 8 * i + 8 ≤ length list.now }
     ensures { result ≡ entry_name list.now i }
 {
-    let number = field::word_at(list, 8 * i) as u64;
-    let dim = field::byte_at(list, 8 * i + 4) as u64;
-    dim * 4294967296 + number
+    index::name(field::byte_at(list, 8 * i + 4), field::word_at(list, 8 * i))
 }
 
 // The part that entry i moves it to.
@@ -49,11 +62,7 @@ pub fn part_of(list: &[u8], i: usize) -> u32
 pub fn entries(list: &[u8]) -> usize
     ensures { result ≡ all_entries list.now }
 {
-    let whole = list.len() / 8;
-    if 8 * whole < list.len() {
-        return whole + 1;
-    }
-    whole
+    list.len().div_ceil(8)
 }
 
 // Does entry i come after the one before it?
@@ -61,12 +70,7 @@ fn follows(list: &[u8], i: usize) -> bool
     requires { 8 * i + 8 ≤ length list.now }
     ensures { result ≡ ascends list.now i }
 {
-    if i == 0 {
-        return true;
-    }
-    let before = name_of(list, i - 1);
-    let here = name_of(list, i);
-    before < here
+    i == 0 || name_of(list, i - 1) < name_of(list, i)
 }
 
 // Is entry i whole, with its zeros, of dimension 3 at most, and after the one before it?
@@ -82,143 +86,80 @@ pub fn entry_fits(list: &[u8], i: usize) -> bool
     (zeros == 0) & (dim <= 3) & after
 }
 
-// Does entry i pass the rule, Whole or Destination? The contract alone reads the image, here and below.
-fn judge_entry(rule: EntryRule, image: &[u8], list: &[u8], n: u32, i: usize) -> bool
-    requires entry_ready { EntryReady rule (set_in image.now) list.now n }
-    requires i_bound { i < all_entries list.now }
-    ensures { result ≡ entry_judged rule (set_in image.now) list.now i }
+// The first entry that is not as `entry_fits` says.
+fn first_unfit(list: &[u8]) -> Option<usize>
+    ensures { FirstBroken (λ i. T (entry_fitting list.now i)) (all_entries list.now) result }
 {
-    match rule {
-        EntryRule::Whole => entry_fits(list, i),
-        _ => part_of(list, i) < n,
-    }
+    (0..entries(list)).find(|&i| !entry_fits(list, i))
 }
 
-// The first entry that fails under the rule, Whole or Destination.
-fn first_entry(rule: EntryRule, image: &[u8], list: &[u8], n: u32) -> Bad
-    requires { EntryReady rule (set_in image.now) list.now n }
-    ensures { bad_entry result ≡ first_bad (entry_judged rule (set_in image.now) list.now) (up_to (all_entries list.now)) }
+// The first entry that names a part which is not among the n.
+fn first_astray(list: &[u8], n: u32) -> Option<usize>
+    requires { Ascending list.now }
+    ensures { FirstBroken (λ i. entry_part list.now i < n) (all_entries list.now) result }
 {
-    let total = entries(list);
-    let mut i = 0;
-    while i < total {
-        if !judge_entry(rule, image, list, n, i) {
-            return Bad::At(i);
-        }
-        i += 1;
-    }
-    Bad::None
+    (0..entries(list)).find(|&i| part_of(list, i) >= n)
 }
 
-// The first place from `from` on whose name is not below `name`, or `count`.
-pub fn seek(keys: &[u64], ord: &[u32], count: usize, from: usize, name: u64) -> usize
-    requires listing { Listing keys.now ord.now count }
-    requires behind { Behind keys.now ord.now count name from }
-    ensures { Lower keys.now ord.now count name result }
+// The first entry that a test refuses. It is asked for each entry with the first place whose name is not below the entry's: entries and entities
+// both ascend, so one sweep finds every name.
+fn sweep<F: Fn(usize, usize) -> bool>(list: &[u8], order: &Order, passes: F) -> Option<usize>
+    requires ascending { Ascending list.now }
+    requires callable { (i j : ℕ) → i < all_entries list.now → Lower order.now.keys.now order.now.ord.now order.now.count (entry_name list.now i) j → F.pre passes i j }
+    ensures { FirstSwept list.now order.now.keys.now order.now.ord.now order.now.count (F.post passes) result }
 {
-    let mut j = from;
-    while j < count {
-        if keys[ord[j] as usize] >= name {
-            return j;
-        }
-        j += 1;
-    }
-    j
-}
-
-// Does entry i pass the rule, Known or Object, where place j is the first whose name is not below the entry's?
-fn judge_place(
-    rule: EntryRule,
-    image: &[u8],
-    list: &[u8],
-    keys: &[u64],
-    ord: &[u32],
-    covered: &[u8],
-    count: usize,
-    i: usize,
-    j: usize,
-) -> bool
-    requires sweep_ready { SweepReady rule (set_in image.now) list.now keys.now ord.now covered.now count }
-    requires i_bound { i < all_entries list.now }
-    requires lower { Lower keys.now ord.now count (entry_name list.now i) j }
-    ensures { result ≡ entry_judged rule (set_in image.now) list.now i }
-{
-    if j == count {
-        return false;
-    }
-    let row = ord[j] as usize;
-    match rule {
-        EntryRule::Object => covered[row] == 0,
-        _ => keys[row] == name_of(list, i),
-    }
-}
-
-// The first entry that fails under the rule, Known or Object: entries and entities both ascend, so one sweep finds every name.
-fn sweep(
-    rule: EntryRule,
-    image: &[u8],
-    list: &[u8],
-    keys: &[u64],
-    ord: &[u32],
-    covered: &[u8],
-    count: usize,
-) -> Bad
-    requires { SweepReady rule (set_in image.now) list.now keys.now ord.now covered.now count }
-    ensures { bad_entry result ≡ first_bad (entry_judged rule (set_in image.now) list.now) (up_to (all_entries list.now)) }
-{
-    let total = entries(list);
     let mut from = 0;
-    let mut i = 0;
-    while i < total {
-        from = seek(keys, ord, count, from, name_of(list, i));
-        if !judge_place(rule, image, list, keys, ord, covered, count, i, from) {
-            return Bad::At(i);
+    for i in 0..entries(list) {
+        from = order.seek(from, name_of(list, i));
+        if !passes(i, from) {
+            return Some(i);
         }
-        i += 1;
     }
-    Bad::None
+    None
 }
 
-// The list stops at entry i under the rule.
-fn stop(rule: EntryRule, i: usize) -> ListStage
-    ensures { result ≡ Stop (refusal (number_of_entry rule) (at_entry i)) }
+// The first entry that names no entity.
+fn first_unknown(list: &[u8], order: &Order) -> Option<usize>
+    requires { Ascending list.now }
+    ensures { FirstBroken (λ i. Present order.now.keys.now order.now.ord.now order.now.count (entry_name list.now i)) (all_entries list.now) result }
 {
-    ListStage::Stop(Refusal::at_entry(rule.number(), i))
+    sweep(list, order, |i, j| order.is_at(j, name_of(list, i)))
 }
 
-// Judges the list by its rules in turn: all entries pass one before any is judged under the next.
+// The first entry whose entity is covered, which is no object.
+fn first_covered(list: &[u8], order: &Order, covered: &[u8]) -> Option<usize>
+    requires ascending { Ascending list.now }
+    requires known { (i : ℕ) → i < all_entries list.now → Present order.now.keys.now order.now.ord.now order.now.count (entry_name list.now i) }
+    requires room { (j : ℕ) → j < order.now.count → get_or order.now.ord.now j 0 < length covered.now }
+    ensures { FirstBroken (λ i. Uncovered order.now.keys.now order.now.ord.now covered.now order.now.count (entry_name list.now i)) (all_entries list.now) result }
+{
+    sweep(list, order, |_, j| covered[order.ord[j] as usize] == 0)
+}
+
+// What the first entry that breaks a rule comes to.
+fn all_pass(rule: EntryRule, broken: Option<usize>) -> Result<(), Refusal>
+    ensures { result ≡ entries_stage rule broken }
+{
+    match broken {
+        Some(i) => Err(Refusal::at_entry(rule.number(), i)),
+        None => Ok(()),
+    }
+}
+
+// Judges the list by its rules in turn: all entries pass one before any is judged under the next. The contract alone reads the image.
 pub fn list_rules(
     image: &[u8],
     list: &[u8],
-    keys: &[u64],
-    ord: &[u32],
+    order: &Order,
     covered: &[u8],
     n: u32,
-    count: usize,
-) -> ListStage
+) -> Result<(), Refusal>
     requires image_len { length (set_in image.now) ≡ n }
-    requires catalog { Catalog (set_in image.now) keys.now ord.now covered.now count }
+    requires catalog { Catalog (set_in image.now) order.now.keys.now order.now.ord.now covered.now order.now.count }
     ensures { ListJudged (set_in image.now) list.now result }
 {
-    let whole = first_entry(EntryRule::Whole, image, list, n);
-    match whole {
-        Bad::At(i) => return stop(EntryRule::Whole, i),
-        Bad::None => {}
-    }
-    let part = first_entry(EntryRule::Destination, image, list, n);
-    match part {
-        Bad::At(i) => return stop(EntryRule::Destination, i),
-        Bad::None => {}
-    }
-    let known = sweep(EntryRule::Known, image, list, keys, ord, covered, count);
-    match known {
-        Bad::At(i) => return stop(EntryRule::Known, i),
-        Bad::None => {}
-    }
-    let object = sweep(EntryRule::Object, image, list, keys, ord, covered, count);
-    match object {
-        Bad::At(i) => return stop(EntryRule::Object, i),
-        Bad::None => {}
-    }
-    ListStage::Go
+    all_pass(EntryRule::Whole, first_unfit(list))?;
+    all_pass(EntryRule::Destination, first_astray(list, n))?;
+    all_pass(EntryRule::Known, first_unknown(list, order))?;
+    all_pass(EntryRule::Object, first_covered(list, order, covered))
 }

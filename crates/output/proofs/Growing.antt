@@ -55,6 +55,3 @@ module _ {f : ℕ → List ℕ} {n : ℕ} {start out : List ℕ} {q at : ℕ} (g
     next = omega (arith, g.next, w.next?, ap length (pieces_more f q), length-append (pieces f q) (f q));
     put = sets_then start out out' 8 at (pieces f q) (f q) g.put w.written g.next ∙ ap (sets start 8) (sym (pieces_more f q));
   }
-
-  pub growing_done : n ≤ q → out ≡ sets start 8 (pieces f n)
-  growing_done h = let e : q ≡ n = omega (arith, g.to) in g.put ∙ ap (λ (k : ℕ). sets start 8 (pieces f k)) e

@@ -10,14 +10,6 @@ use lib.Ieee.{binary64, of_bits, to_bits}
 use lib.Ieee.Bits.{to_bits-of_bits}
 use borrow.Author.Tests.{eq-eqb, ne_eqb}
 use Rattle.paper.specs.declared.Refusal.{Refusal}
-use Rattle.paper.specs.declared.CheckAnswer.{CheckAnswer}
-use Rattle.paper.specs.declared.CheckAnswer.TheVariants as check
-use Rattle.paper.specs.declared.MigrateAnswer.{MigrateAnswer}
-use Rattle.paper.specs.declared.MigrateAnswer.TheVariants as migrate
-use Rattle.paper.specs.declared.LookupAnswer.{LookupAnswer}
-use Rattle.paper.specs.declared.LookupAnswer.TheVariants as lookup
-use Rattle.paper.specs.declared.BoxAnswer.{BoxAnswer}
-use Rattle.paper.specs.declared.BoxAnswer.TheVariants as box
 use Rattle.paper.specs.Outcome.{Outcome, refused}
 use Rattle.paper.specs.Sound.{value_fitting}
 use Rattle.paper.specs.Answers.{value_of, is_same_value, check_answer, migrate_answer, lookup_answer, box_answer}
@@ -26,6 +18,8 @@ use Rattle.paper.proofs.Outcomes.{accepted_inj}
 use Rattle.laws.proofs.Tests.{T_true}
 use Rattle.field.specs.Bytes.{finite}
 use Rattle.field.proofs.Finite.{finite_plain}
+use Rattle.std.specs.Prelude.{Err, Ok, None, Some}
+use Rattle.paper.specs.Given.{CheckAnswer, MigrateAnswer, LookupAnswer, BoxAnswer, sound_answer_of, moved_answer_of, found_answer_of}
 
 -- ---- the answers
 
@@ -37,39 +31,39 @@ refusal-one r q e =
     λ i. record { number = number i; major = (place i).major; minor = (place i).minor }
 
 pub check-one : (a b : CheckAnswer) → check_answer a ≡ check_answer b → a ≡ b
-check-one (check.Refused r) (check.Refused q) e = ap check.Refused (refusal-one r q e)
-check-one (check.Refused r) (check.Sound parts rows) e = cc
-check-one (check.Sound parts rows) (check.Refused q) e = cc
-check-one (check.Sound parts rows) (check.Sound parts' rows') e =
+check-one (Err r) (Err q) e = ap Err (refusal-one r q e)
+check-one (Err r) (Ok t) e = cc
+check-one (Ok s) (Err q) e = cc
+check-one (Ok s) (Ok t) e =
     let values = accepted_inj e in
-    λ i. check.Sound (values i).parts (values i).rows
+    λ i. sound_answer_of (values i).parts (values i).rows
 
 pub migrate_one : (a b : MigrateAnswer) → migrate_answer a ≡ migrate_answer b → a ≡ b
-migrate_one (migrate.Refused r) (migrate.Refused q) e = ap migrate.Refused (refusal-one r q e)
-migrate_one (migrate.Refused r) (migrate.Moved length rows moved) e = cc
-migrate_one (migrate.Moved length rows moved) (migrate.Refused q) e = cc
-migrate_one (migrate.Moved length rows moved) (migrate.Moved length' rows' moved') e =
+migrate_one (Err r) (Err q) e = ap Err (refusal-one r q e)
+migrate_one (Err r) (Ok n) e = cc
+migrate_one (Ok m) (Err q) e = cc
+migrate_one (Ok m) (Ok n) e =
     let values = accepted_inj e in
-    λ i. migrate.Moved (values i).length (values i).rows (values i).moved
+    λ i. moved_answer_of (values i).length (values i).rows (values i).moved
 
 pub lookup-one : (a b : LookupAnswer) → lookup_answer a ≡ lookup_answer b → a ≡ b
-lookup-one (lookup.Refused r) (lookup.Refused q) e = ap lookup.Refused (refusal-one r q e)
-lookup-one (lookup.Refused r) (lookup.Found residence owner) e = cc
-lookup-one (lookup.Found residence owner) (lookup.Refused q) e = cc
-lookup-one (lookup.Found residence owner) (lookup.Found residence' owner') e =
+lookup-one (Err r) (Err q) e = ap Err (refusal-one r q e)
+lookup-one (Err r) (Ok k) e = cc
+lookup-one (Ok h) (Err q) e = cc
+lookup-one (Ok h) (Ok k) e =
     let values = accepted_inj e in
-    λ i. lookup.Found (values i).residence (record { 0 = (values i).owner })
+    λ i. found_answer_of (values i).residence (record { 0 = (values i).owner })
 
 pub box-one : (a b : BoxAnswer) → box_answer a ≡ box_answer b → a ≡ b
-box-one (box.Refused r) (box.Refused q) e = ap box.Refused (refusal-one r q e)
-box-one (box.Refused r) box.NoVertex e = cc
-box-one (box.Refused r) (box.Around b) e = cc
-box-one box.NoVertex (box.Refused q) e = cc
-box-one box.NoVertex box.NoVertex e = refl
-box-one box.NoVertex (box.Around b) e = cc
-box-one (box.Around b) (box.Refused q) e = cc
-box-one (box.Around b) box.NoVertex e = cc
-box-one (box.Around b) (box.Around c) e = cc
+box-one (Err r) (Err q) e = ap Err (refusal-one r q e)
+box-one (Err r) (Ok None) e = cc
+box-one (Err r) (Ok (Some b)) e = cc
+box-one (Ok None) (Err q) e = cc
+box-one (Ok None) (Ok None) e = refl
+box-one (Ok None) (Ok (Some b)) e = cc
+box-one (Ok (Some b)) (Err q) e = cc
+box-one (Ok (Some b)) (Ok None) e = cc
+box-one (Ok (Some b)) (Ok (Some c)) e = cc
 
 -- ---- values
 

@@ -5,10 +5,6 @@ use mathlib.Core.List.{[], ◌∷◌, ◌++◌}
 use lib.Ieee.{binary64, of_bits}
 use lib.ListN.{set}
 use Rattle.paper.specs.declared.Value.TheVariants as value
-use Rattle.paper.specs.declared.CheckAnswer.TheVariants as check
-use Rattle.paper.specs.declared.MigrateAnswer.TheVariants as migrate
-use Rattle.paper.specs.declared.LookupAnswer.TheVariants as lookup
-use Rattle.paper.specs.declared.BoxAnswer.TheVariants as box
 use Rattle.paper.specs.Outcome.{at_row, refusal, answered}
 use Rattle.paper.specs.Sound.{check_of}
 use Rattle.paper.specs.Move
@@ -21,49 +17,51 @@ use Rattle.paper.specs.Answers.{value_of, check_answer, migrate_answer, lookup_a
 use Rattle.paper.proofs.Meshes.{one, image_with, A, B}
 use Rattle.paper.proofs.OwnMeshes.{two, three, minus_one, minus_two, minus_three, vertex, first, second, kit}
 use Rattle.paper.proofs.Table.{send}
+use Rattle.std.specs.Prelude.{Err, Ok, None, Some}
+use Rattle.paper.specs.Given.{sound_answer_of, moved_answer_of, found_answer_of}
 
-pub check_sound : check_answer (check.Sound 2 11) ≡ check_of A
+pub check_sound : check_answer (sound_answer_of 2 11) ≡ check_of A
 unfolding Move.computes
 check_sound = refl
 
 -- part, then slot
-pub check_refused : check_answer (check.Refused (refusal 10 (at_row 0 1))) ≡ check_of (set B 108 1)
+pub check_refused : check_answer (Err (refusal 10 (at_row 0 1))) ≡ check_of (set B 108 1)
 unfolding Move.computes
 check_refused = refl
 
-pub migrate_moved : migrate_answer (migrate.Moved 712 14 1) ≡ answered sizes_of (migrate_of A (send 2 2 1) 712 11)
+pub migrate_moved : migrate_answer (moved_answer_of 712 14 1) ≡ answered sizes_of (migrate_of A (send 2 2 1) 712 11)
 unfolding Move.computes
 migrate_moved = refl
 
 -- entry, then 0
-pub migrate_refused : migrate_answer (migrate.Refused (refusal 13 (at_row 1 0))) ≡ answered sizes_of (migrate_of kit (send 0 5 1 ++ (0 ∷ [])) 208 4)
+pub migrate_refused : migrate_answer (Err (refusal 13 (at_row 1 0))) ≡ answered sizes_of (migrate_of kit (send 0 5 1 ++ (0 ∷ [])) 208 4)
 unfolding Move.computes
 migrate_refused = refl
 
-pub lookup-found : lookup_answer (lookup.Found 2 (record { 0 = 1 })) ≡ lookup_of (second (vertex 1 0 0 0)) 0 1
+pub lookup-found : lookup_answer (found_answer_of 2 (record { 0 = 1 })) ≡ lookup_of (second (vertex 1 0 0 0)) 0 1
 unfolding Move.computes Lookup.computes
 lookup-found = refl
 
-pub lookup_refused : lookup_answer (lookup.Refused (refusal 7 (at_row 1 0))) ≡ lookup_of (set (second (vertex 1 0 0 0)) 23 1) 0 1
+pub lookup_refused : lookup_answer (Err (refusal 7 (at_row 1 0))) ≡ lookup_of (set (second (vertex 1 0 0 0)) 23 1) 0 1
 unfolding Move.computes Lookup.computes
 lookup_refused = refl
 
-pub box_none : box_answer box.NoVertex ≡ box_asked (first (vertex 1 0 0 0)) 1
+pub box_none : box_answer (Ok None) ≡ box_asked (first (vertex 1 0 0 0)) 1
 unfolding Move.computes Box.computes
 box_none = refl
 
 pub box_around_lem :
     box_answer
-    (box.Around
+    (Ok (Some
     (record {
       least = record { x = of_bits binary64 minus_one; y = of_bits binary64 minus_two; z = of_bits binary64 minus_three };
       greatest = record { x = of_bits binary64 one; y = of_bits binary64 two; z = of_bits binary64 three };
-    }))
+    })))
     ≡ box_asked (image_with ((vertex 1 one two three ∷ vertex 2 minus_one minus_two minus_three ∷ []) ∷ [])) 0
 unfolding Move.computes Box.computes
 box_around_lem = refl
 
-pub box_refused : box_answer (box.Refused (refusal 7 (at_row 1 0))) ≡ box_asked (set (second (vertex 1 0 0 0)) 23 1) 0
+pub box_refused : box_answer (Err (refusal 7 (at_row 1 0))) ≡ box_asked (set (second (vertex 1 0 0 0)) 23 1) 0
 unfolding Move.computes Box.computes
 box_refused = refl
 

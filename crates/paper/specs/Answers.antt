@@ -1,21 +1,14 @@
 -- The public answers (document 01, "Refusal numbers" and "The forms we use"): for each case of an answer's enum, the paper's refusal number
 -- and place, or its values. A contract is an equation with one of these, and each is one to one (proofs/Injective.antt), so it leaves no
 -- second answer. Assumes nothing.
-use Rattle.std.specs.Prelude.{ℕ, zero, suc, Bool, true, false, eqb}
+use Rattle.std.specs.Prelude.{ℕ, zero, suc, Bool, true, false, eqb, Ok, Err, Some, None}
 use Rattle.std.proofs.Math.Option.{Option, none, some}
 use Rattle.std.specs.Float.{binary64}
 use Rattle.std.specs.Float.Ieee.{of_bits, to_bits}
 use Rattle.paper.specs.declared.Value.{Value}
 use Rattle.paper.specs.declared.Value.TheVariants as value
 use Rattle.paper.specs.declared.Box.{Box}
-use Rattle.paper.specs.declared.CheckAnswer.{CheckAnswer}
-use Rattle.paper.specs.declared.CheckAnswer.TheVariants as check
-use Rattle.paper.specs.declared.MigrateAnswer.{MigrateAnswer}
-use Rattle.paper.specs.declared.MigrateAnswer.TheVariants as migrate
-use Rattle.paper.specs.declared.LookupAnswer.{LookupAnswer}
-use Rattle.paper.specs.declared.LookupAnswer.TheVariants as lookup
-use Rattle.paper.specs.declared.BoxAnswer.{BoxAnswer}
-use Rattle.paper.specs.declared.BoxAnswer.TheVariants as box
+use Rattle.paper.specs.Given.{CheckAnswer, MigrateAnswer, LookupAnswer, BoxAnswer}
 use Rattle.paper.specs.Outcome.{Outcome, place_of, refused, accepted}
 use Rattle.paper.specs.Sound.{Checked}
 use Rattle.paper.specs.Move.{Sizes}
@@ -44,18 +37,18 @@ is_same_value (value.Real x) (value.Real y) = eqb (to_bits binary64 x) (to_bits 
 -- ---- the answers
 
 abbrev pub check_answer : CheckAnswer → Outcome Checked
-check_answer (check.Refused r) = refused r.number (place_of r)
-check_answer (check.Sound parts rows) = accepted (record { parts = parts; rows = rows })
+check_answer (Err r) = refused r.number (place_of r)
+check_answer (Ok s) = accepted (record { parts = s.parts; rows = s.rows })
 
 abbrev pub migrate_answer : MigrateAnswer → Outcome Sizes
-migrate_answer (migrate.Refused r) = refused r.number (place_of r)
-migrate_answer (migrate.Moved length rows moved) = accepted (record { length = length; rows = rows; moved = moved })
+migrate_answer (Err r) = refused r.number (place_of r)
+migrate_answer (Ok m) = accepted (record { length = m.length; rows = m.rows; moved = m.moved })
 
 abbrev pub lookup_answer : LookupAnswer → Outcome Found
-lookup_answer (lookup.Refused r) = refused r.number (place_of r)
-lookup_answer (lookup.Found residence owner) = accepted (record { residence = residence; owner = owner.0 })
+lookup_answer (Err r) = refused r.number (place_of r)
+lookup_answer (Ok h) = accepted (record { residence = h.residence; owner = h.owner.0 })
 
 abbrev pub box_answer : BoxAnswer → Outcome (Option Box)
-box_answer (box.Refused r) = refused r.number (place_of r)
-box_answer box.NoVertex = accepted none
-box_answer (box.Around b) = accepted (some b)
+box_answer (Err r) = refused r.number (place_of r)
+box_answer (Ok None) = accepted none
+box_answer (Ok (Some b)) = accepted (some b)

@@ -2,10 +2,12 @@ pub mod Outcome
 pub mod Image
 pub mod Mesh
 pub mod Sound
+pub mod Unplaced
 pub mod Placement
 pub mod Move
 pub mod Lookup
 pub mod Box
 pub mod Listing
+pub mod Given
 pub mod Answers
 pub mod Promises

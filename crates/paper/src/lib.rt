@@ -5,6 +5,7 @@ ghost use Rattle.std.specs.Prelude.{◌≡◌};
 ghost use Rattle.paper.specs.Outcome.{nowhere, at_row, at_entry, refusal};
 ghost use Rattle.paper.specs.Sound.{number_of};
 ghost use Rattle.paper.specs.Move.{number_of_entry};
+ghost use Rattle.paper.specs.Unplaced.{number_of_unplaced};
 ghost use Rattle.paper.specs.Box.{lesser as lesser_of, greater as greater_of, grow as grown_by};
 
 // The limits of document 01: an image has at most 1,048,576 bytes and 64 parts. A row takes 48 bytes or more, up to 300 where it is in all
@@ -145,14 +146,56 @@ pub struct Refusal {
     pub minor: u32,
 }
 
+// What is refused as a whole, at no place: an image by its head or its filling, a migration for want of room, a question about what is not there.
+#[derive(Clone, Copy, PartialEq, Eq)]
+pub enum Unplaced {
+    ImageTooLong,
+    ImageTooShort,
+    WrongMark,
+    WrongVersion,
+    WrongCount,
+    NotFilled,
+    WorkTooShort,
+    ResultTooLong,
+    OutputTooShort,
+    NoSuchPart,
+    NoSuchEntity,
+}
+
+impl Unplaced {
+    pub fn number(self) -> u32
+        ensures { result ≡ number_of_unplaced self }
+    {
+        match self {
+            Unplaced::ImageTooLong => 1,
+            Unplaced::ImageTooShort => 2,
+            Unplaced::WrongMark => 3,
+            Unplaced::WrongVersion => 4,
+            Unplaced::WrongCount => 5,
+            Unplaced::NotFilled => 6,
+            Unplaced::WorkTooShort => 17,
+            Unplaced::ResultTooLong => 18,
+            Unplaced::OutputTooShort => 19,
+            Unplaced::NoSuchPart => 20,
+            Unplaced::NoSuchEntity => 21,
+        }
+    }
+}
+
+// So that `?` makes the refusal.
+impl From<Unplaced> for Refusal {
+    ghost from_gives = { λ reason made. made ≡ refusal (number_of_unplaced reason) nowhere };
+
+    fn from(reason: Unplaced) -> Refusal {
+        Refusal::nowhere(reason.number())
+    }
+}
+
 // The number of an entry, of which an answer has 32 bits.
 fn entry_number(i: usize) -> u32
     ensures { result ≡ (at_entry i).major }
 {
-    if i < 4294967296 {
-        return i as u32;
-    }
-    4294967295
+    u32::try_from(i).unwrap_or(u32::MAX)
 }
 
 impl Refusal {
@@ -161,7 +204,7 @@ impl Refusal {
         ensures { result ≡ refusal number nowhere }
     {
         Refusal {
-            number: number,
+            number,
             major: 0,
             minor: 0,
         }
@@ -172,7 +215,7 @@ impl Refusal {
         ensures { result ≡ refusal number (at_row part.0 slot.0) }
     {
         Refusal {
-            number: number,
+            number,
             major: part.0,
             minor: slot.0,
         }
@@ -182,36 +225,41 @@ impl Refusal {
     pub fn at_entry(number: u32, i: usize) -> Refusal
         ensures { result ≡ refusal number (at_entry i) }
     {
-        let major = entry_number(i);
         Refusal {
-            number: number,
-            major: major,
+            number,
+            major: entry_number(i),
             minor: 0,
         }
     }
 }
 
-#[derive(Clone, Copy)]
-pub enum CheckAnswer {
-    Refused(Refusal),
-    Sound { parts: u32, rows: u32 },
+// The counts of a sound image.
+#[derive(Clone, Copy, PartialEq, Eq)]
+pub struct Sound {
+    pub parts: u32,
+    pub rows: u32,
 }
 
-#[derive(Clone, Copy)]
-pub enum MigrateAnswer {
-    Refused(Refusal),
-    Moved { length: u32, rows: u32, moved: u32 },
+// The counts of a migration: bytes and rows of the new image, and the objects that changed their part.
+#[derive(Clone, Copy, PartialEq, Eq)]
+pub struct Moved {
+    pub length: u32,
+    pub rows: u32,
+    pub moved: u32,
 }
 
+// Where an entity resides, and the part that owns it.
 #[derive(Clone, Copy)]
-pub enum LookupAnswer {
-    Refused(Refusal),
-    Found { residence: u64, owner: Part },
+pub struct Home {
+    pub residence: u64,
+    pub owner: Part,
 }
 
-#[derive(Clone, Copy)]
-pub enum BoxAnswer {
-    Refused(Refusal),
-    NoVertex,
-    Around(Box),
-}
+pub type CheckAnswer = Result<Sound, Refusal>;
+
+pub type MigrateAnswer = Result<Moved, Refusal>;
+
+pub type LookupAnswer = Result<Home, Refusal>;
+
+// A part without a vertex has no box.
+pub type BoxAnswer = Result<Option<Box>, Refusal>;

@@ -3,12 +3,13 @@ use Prim.Native.Nat.{ℕ, zero, suc, ◌+◌, ◌≤◌, ◌<◌}
 use native.Mathlib.Numerals.{add-one}
 use native.Mathlib.Omega.{arith}
 use mathlib.Core.Path.{◌≡◌, refl, sym, ap, ◌∙◌}
-use mathlib.Core.Bool.{Bool, not, cond}
+use mathlib.Core.Bool.{Bool, true, false, not, cond}
 use mathlib.Core.Logic.{◌⊎◌, inl, inr}
 use mathlib.Core.List.{List}
 use lib.ListN.{length, get_or, set, length-set}
 use lib.Seq.{get_or-set_same, get_or-set_other}
 use lib.Dec.{T, eqb, eqb→eq, T_not}
+use Rattle.std.specs.Int.{from_bool}
 use Rattle.laws.proofs.Tests.{decide, T_true, eq-eqb, ne_eqb, one_at_most}
 use Rattle.laws.proofs.Totals.{kept_none, kept_suc}
 use Rattle.index.specs.Index.{max_rows}
@@ -30,19 +31,19 @@ module _ (t : ℕ → Bool) (first : ℕ) where
 -- ---- one row
 
 module _ (covered dest counts : List ℕ) (p g : ℕ) where
-  pub row_skipped : (get_or covered g 0 ≡ 0 → ⊥) → RowCounted covered dest p g counts counts 0
+  pub row_skipped : (get_or covered g 0 ≡ 0 → ⊥) → RowCounted covered dest p g counts counts false
   unfolding goes leaves
   row_skipped ne =
       let z = ne_eqb (get_or covered g 0) 0 ne in
       record { same = refl; sent = λ q h. rw z (omega arith); away = rw z refl }
 
-  pub row_counted : (q left : ℕ) → get_or covered g 0 ≡ 0 → q ≡ get_or dest g 0 → q < length counts → left ≡ cond (not (eqb p q)) 1 0
-      → RowCounted covered dest p g counts (set counts q (get_or counts q 0 + 1)) left
+  pub row_counted : (q : ℕ) → get_or covered g 0 ≡ 0 → q ≡ get_or dest g 0 → q < length counts
+      → RowCounted covered dest p g counts (set counts q (get_or counts q 0 + 1)) (not (eqb p q))
   unfolding goes leaves
-  row_counted q left o e h f = record {
+  row_counted q o e h = record {
     same = length-set counts q (get_or counts q 0 + 1);
     sent = λ r _. rw (o, ← e) (at r (decide (eqb q r)));
-    away = rw (o, ← e) f;
+    away = rw (o, ← e) refl;
   }
     where
       at : (r : ℕ) → T (eqb q r) ⊎ T (not (eqb q r)) → get_or (set counts q (get_or counts q 0 + 1)) r 0 ≡ get_or counts r 0 + cond (eqb q r) 1 0
@@ -63,13 +64,14 @@ module _ {covered dest counts : List ℕ} {g q : ℕ} (asked : ObjectsCountable 
   pub part_small : get_or counts q 0 < max_rows
   part_small = omega (arith, asked.few, asked.small q is_part)
 
-  pub row_stays : {p : ℕ} → p ≡ q → RowCounted covered dest p g counts (set counts q (get_or counts q 0 + 1)) 0
-  row_stays {p} s = row_counted covered dest counts p g q 0 o e part_there (rw (T_true (eqb p q) (eq-eqb p q s)) refl)
-
-  pub row-leaves : (p : ℕ) → (p ≡ q → ⊥) → RowCounted covered dest p g counts (set counts q (get_or counts q 0 + 1)) 1
-  row-leaves p a = row_counted covered dest counts p g q 1 o e part_there (rw (ne_eqb p q a) refl)
+  pub object_counted : (p : ℕ) → RowCounted covered dest p g counts (set counts q (get_or counts q 0 + 1)) (not (eqb p q))
+  object_counted p = row_counted covered dest counts p g q o e part_there
 
 -- ---- the rows of a part
+
+byte_is : (b : Bool) → from_bool b ≡ cond b 1 0
+byte_is true = refl
+byte_is false = refl
 
 -- the first s rows are counted
 pub record Counting (covered dest : List ℕ) (p first n : ℕ) (counts₀ counts : List ℕ) (s left : ℕ) : Type 0 where
@@ -100,19 +102,19 @@ module _ {covered dest : List ℕ} {p first n : ℕ} {counts₀ : List ℕ} (cou
     small = λ q l. omega (arith, asked.small q l, inv.done.sent q l, many_le (goes covered dest q) first s);
   }
 
-  pub counting_more : s < n → (counts' : List ℕ) (one : ℕ) → RowCounted covered dest p (first + s) counts counts' one
+  pub counting_more : s < n → (counts' : List ℕ) (away : Bool) (one : ℕ) → one ≡ from_bool away → RowCounted covered dest p (first + s) counts counts' away
       → Counting covered dest p first n counts₀ counts' (s + 1) (left + one)
-  counting_more h counts' one r = record {
+  counting_more h counts' away one e r = record {
     to = omega arith;
     done = record {
       same = r.same ∙ inv.done.same;
       sent = λ q l. omega (arith, r.sent q l, inv.done.sent q l, many_suc (goes covered dest q) first s);
-      away = omega (arith, r.away, inv.done.away, many_suc (leaves covered dest p) first s);
+      away = omega (arith, e, byte_is away, ap {B = ℕ} (λ (t : Bool). cond t 1 0) r.away, inv.done.away, many_suc (leaves covered dest p) first s);
     };
   }
 
-  pub counting_fits : (counts' : List ℕ) (one : ℕ) → RowCounted covered dest p (first + s) counts counts' one → left + one ≤ s + 1
-  counting_fits counts' one r = omega (arith, counting_few, r.away, one_at_most (leaves covered dest p (first + s)))
+  pub counting_fits : (away : Bool) (one : ℕ) → one ≡ from_bool away → left + one ≤ s + 1
+  counting_fits away one e = omega (arith, counting_few, e, byte_is away, one_at_most away)
 
   pub counting_done : n ≤ s → RowsCounted covered dest p first n counts₀ counts left
   counting_done h = let e : s ≡ n = omega (arith, inv.to) in rw (sym e) inv.done

@@ -16,25 +16,10 @@ use Rattle.places.specs.Sweep.{EntryAhead, EntrySent, Addressed, Sent}
 
 -- ---- one entry
 
-module _ {l keys ord dest : List ℕ} {count from i : ℕ} (asked : EntryAhead l keys ord dest count from i) {x : ℕ} (named : x ≡ entry_name l i) where
-  pub entry_sought : Listing keys ord count × Behind keys ord count x from
-  entry_sought = (asked.listing, subst (λ (k : ℕ). Behind keys ord count k from) (sym named) asked.behind)
-
-  module _ {j : ℕ} (v : Lower keys ord count x j) where
-    entry_lower : Lower keys ord count (entry_name l i) j
-    entry_lower = subst (λ (k : ℕ). Lower keys ord count k j) named v
-
-    entry_there : j < count
-    entry_there = (found asked.listing entry_lower asked.there).0
-
-    pub entry_place : j < length ord
-    entry_place = omega (arith, entry_there, asked.listing.within)
-
-    pub entry_row : get_or ord j 0 < length dest
-    entry_row = asked.room j entry_there
-
-    pub entry_sent : (p : ℕ) → p ≡ entry_part l i → EntrySent l keys ord count i dest (set dest (get_or ord j 0) p) j
-    entry_sent p e = record { lower = entry_lower; put = ap (set dest (get_or ord j 0)) e }
+module _ {l keys ord dest : List ℕ} {count from i : ℕ} (listing : Listing keys ord count) (asked : EntryAhead l keys ord dest count from i)
+    {x : ℕ} (named : x ≡ entry_name l i) where
+  pub entry_sought : Behind keys ord count x from
+  entry_sought = subst (λ (k : ℕ). Behind keys ord count k from) (sym named) asked.behind
 
 -- ---- the sweep
 
@@ -45,7 +30,8 @@ pub record Sweeping (l keys ord : List ℕ) (count : ℕ) (dest₀ dest : List �
   pub after : i < all_entries l → (e : ℕ) → e < i → entry_name l e < entry_name l i
   pub behind : i < all_entries l → Behind keys ord count (entry_name l i) from
 
-module _ {l keys ord : List ℕ} {count : ℕ} {dest₀ : List ℕ} (asked : Addressed l keys ord dest₀ count) where
+module _ {l keys ord : List ℕ} {count : ℕ} {dest₀ : List ℕ} (listing : Listing keys ord count) (asked : Addressed l keys ord count)
+    (rows : (j : ℕ) → j < count → get_or ord j 0 < length dest₀) where
   pub sweeping_none : Sweeping l keys ord count dest₀ dest₀ 0 0
   sweeping_none = record {
     to = omega arith;
@@ -57,8 +43,7 @@ module _ {l keys ord : List ℕ} {count : ℕ} {dest₀ : List ℕ} (asked : Add
   module _ (dest : List ℕ) (i from : ℕ) (inv : Sweeping l keys ord count dest₀ dest i from) (h : i < all_entries l) where
     pub sweeping_ahead : EntryAhead l keys ord dest count from i
     sweeping_ahead = record {
-      listing = asked.listing;
-      room = λ j g. omega (arith, asked.room j g, inv.sent.same);
+      room = λ j g. omega (arith, rows j g, inv.sent.same);
       whole = asked.whole i h;
       part = asked.part i h;
       there = asked.there i h;
@@ -67,21 +52,21 @@ module _ {l keys ord : List ℕ} {count : ℕ} {dest₀ : List ℕ} (asked : Add
 
     module _ (j : ℕ) (v : Lower keys ord count (entry_name l i) j) where
       place_found : (j < count) × (key_in keys (get_or ord j 0) ≡ entry_name l i)
-      place_found = found asked.listing v (asked.there i h)
+      place_found = found listing v (asked.there i h)
 
       -- the row of this entry's entity is none of those sent before
       row_apart : (e k : ℕ) → e < i → key_in keys (get_or ord k 0) ≡ entry_name l e → get_or ord k 0 ≡ get_or ord j 0 → ⊥
       row_apart e k b n z = omega (arith, inv.after h e b, place_found.1, ap (key_in keys) z)
 
       row_there : get_or ord j 0 < length dest
-      row_there = omega (arith, asked.room j place_found.0, inv.sent.same)
+      row_there = omega (arith, rows j place_found.0, inv.sent.same)
 
       abbrev dest' : List ℕ
       dest' = set dest (get_or ord j 0) (entry_part l i)
 
       listed : (e k : ℕ) → (e ≡ i) ⊎ (e < i) → k < count → key_in keys (get_or ord k 0) ≡ entry_name l e → get_or dest' (get_or ord k 0) 0 ≡ entry_part l e
       listed e k (inl s) g n =
-          let same : j ≡ k = place_is asked.listing v k g (n ∙ ap (entry_name l) s) in
+          let same : j ≡ k = place_is listing v k g (n ∙ ap (entry_name l) s) in
           ap (λ (z : ℕ). get_or dest' (get_or ord z 0) 0) (sym same) ∙ get_or-set_same dest (get_or ord j 0) (entry_part l i) 0 row_there ∙ ap (entry_part l) (sym s)
       listed e k (inr b) g n =
           get_or-set_other dest (get_or ord j 0) (get_or ord k 0) (entry_part l i) 0 (row_apart e k b n) ∙ inv.sent.listed e k b g n

@@ -8,12 +8,12 @@ use Rattle.laws.specs.Lists.{In}
 use Rattle.laws.proofs.Tests.{eq-eqb}
 use Rattle.paper.specs.Image.{row_at}
 use Rattle.paper.specs.Mesh.{name, ent_of, parts_of, mesh_of, is_object}
-use Rattle.paper.specs.Sound.{name_of_row}
+use Rattle.paper.specs.Outcome.{accepted}
+use Rattle.paper.specs.Sound.{name_of_row, sound_of}
 use Rattle.paper.specs.Placement.{objects, place_in}
 use Rattle.index.specs.Index.{set_in}
 use Rattle.residence.specs.Tables.{Covers}
 use Rattle.field.proofs.Reading.{bytes_all}
-use Rattle.plan.specs.Plan.{Sourced}
 use Rattle.demands.proofs.Mesh.Spread.{in_objects}
 use Rattle.demands.proofs.Sound.Facts.{Sound, sound_inv}
 use Rattle.demands.proofs.Sound.Rows.{ent, in_part_lem}
@@ -23,8 +23,8 @@ use Rattle.demands.proofs.ForCode.Marks.{row_is_object}
 use Rattle.moves.proofs.OpenRows.{row_open}
 
 -- the image of such tables is sound
-pub is_sound : {b offs starts ord : List ℕ} {n m : ℕ} → Sourced b offs starts ord n m → ((i : ℕ) → get_or b i 0 < 256) → Sound (set_in b)
-is_sound {b} source bytes = (sound_inv b (set_in b) (bytes_all b bytes) source.sound).0
+pub is_sound : (b : List ℕ) → sound_of b ≡ accepted (set_in b) → ((i : ℕ) → get_or b i 0 < 256) → Sound (set_in b)
+is_sound b sound bytes = (sound_inv b (set_in b) (bytes_all b bytes) sound).0
 
 module _ {b starts table : List ℕ} (f : Sound (set_in b)) (covers : Covers b starts table) (p s : ℕ) (h : s < length (get_or (set_in b) p []))
     (o : get_or table (get_or starts p 0 + s) 0 ≡ 0) where

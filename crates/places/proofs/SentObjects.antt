@@ -15,9 +15,9 @@ use Rattle.paper.specs.Mesh.{name, ent_of, parts_of, mesh_of, is_object, slot_in
 use Rattle.paper.specs.Sound.{name_of_row}
 use Rattle.paper.specs.Placement.{place_in}
 use Rattle.paper.specs.Move.{entry_name, entry_part, all_entries, entry_fitting}
-use Rattle.index.specs.Index.{set_in}
+use Rattle.index.specs.Index.{set_in, Indexed}
 use Rattle.merge.specs.Runs.{key_in}
-use Rattle.rows.proofs.Laws.{part_room, part_there, row_there}
+use Rattle.rows.proofs.Laws.{part_there, row_there}
 use Rattle.demands.proofs.Theorems.Destinations.{moved_listed, moved_unlisted}
 use Rattle.demands.proofs.Sound.Facts.{Sound}
 use Rattle.demands.proofs.Sound.Rows.{ent, in_part_lem, slot_is}
@@ -26,24 +26,14 @@ use Rattle.demands.proofs.Fit.ToMesh.{object_found}
 use Rattle.paper.specs.declared.EntryRule.TheVariants.{Whole, Destination, Known}
 use Rattle.paper.specs.Move.{entry_judged}
 use Rattle.moves.proofs.Judging.{passed_whole, passed_next, passed_known}
-use Rattle.plan.specs.Plan.{placed, placing, Destined, LowestRow}
+use Rattle.plan.specs.Plan.{placed, placing, Sourced, Destined}
 use Rattle.places.specs.Sending.{Sendable}
-use Rattle.places.specs.Sweep.{Stretches, Stayed, Addressed, Sent}
+use Rattle.places.specs.Sweep.{Stayed, Addressed, Sent}
 use Rattle.places.proofs.ObjectRows.{open_object, open_place}
 
-module _ {b l offs starts keys table ord dest : List ℕ} {n m : ℕ} (asked : Sendable b l offs starts keys table ord dest n m) where
-  -- ---- what the two sweeps ask
+-- ---- what the second sweep asks
 
-  pub stretches : Stretches starts dest n
-  stretches =
-      let index = asked.source.indexed in
-      record {
-        few = index.few;
-        starts_room = index.starts_room;
-        up = λ p h. omega (arith, index.next p h);
-        room = λ p h. omega (arith, index.next p h, part_room index p h, index.total_few, asked.room);
-      }
-
+module _ {b l offs starts keys table ord dest : List ℕ} {n m : ℕ} (index : Indexed b offs starts n) (asked : Sendable b l starts keys table ord dest m) where
   fits : (i : ℕ) → i < all_entries l → T (entry_fitting l i)
   unfolding entry_judged
   fits = asked.passed Whole
@@ -52,22 +42,19 @@ module _ {b l offs starts keys table ord dest : List ℕ} {n m : ℕ} (asked : S
   unfolding entry_judged
   part_fits i h = ltb→lt (entry_part l i) (length (set_in b)) (asked.passed Destination i h)
 
-  lowest : (j : ℕ) → j < m → LowestRow (set_in b) starts ord j
-  lowest = asked.source.ordered.row
+  pub addressed : Addressed l keys ord m
+  addressed = record {
+    whole = passed_whole (set_in b) l (asked.passed Whole);
+    part = λ i h. omega (arith, part_fits i h, index.count, index.few);
+    up = passed_next (set_in b) l (asked.passed Whole);
+    there = λ i h. asked.catalog.all (entry_name l i) (passed_known (set_in b) l (asked.passed Known) i h);
+  }
 
-  pub addressed : (dest' : List ℕ) → length dest' ≡ length dest → Addressed l keys ord dest' m
-  addressed dest' same =
-      let index = asked.source.indexed in
-      record {
-        listing = asked.catalog.listing;
-        room = λ j h. let w = lowest j h in omega (arith, w.is, row_there index w.part w.slot w.there, asked.room, same);
-        whole = passed_whole (set_in b) l (asked.passed Whole);
-        part = λ i h. omega (arith, part_fits i h, index.count, index.few);
-        up = passed_next (set_in b) l (asked.passed Whole);
-        there = λ i h. asked.catalog.all (entry_name l i) (passed_known (set_in b) l (asked.passed Known) i h);
-      }
+module _ {b l offs starts keys table ord dest : List ℕ} {n m : ℕ} (source : Sourced b offs starts ord n m) (asked : Sendable b l starts keys table ord dest m) where
+  pub rows_there : (dest' : List ℕ) → length dest' ≡ length dest → (j : ℕ) → j < m → get_or ord j 0 < length dest'
+  rows_there dest' same j h = let w = source.ordered.row j h in omega (arith, w.is, row_there source.indexed w.part w.slot w.there, asked.room, same)
 
-  -- ---- what they leave
+  -- ---- what the two leave
 
   module _ (f : Sound (set_in b)) (p s : ℕ) (h : s < length (get_or (set_in b) p [])) (o : get_or table (get_or starts p 0 + s) 0 ≡ 0) where
     k : ℕ
@@ -88,21 +75,21 @@ module _ {b l offs starts keys table ord dest : List ℕ} {n m : ℕ} (asked : S
     -- the place of its name is that of its row
     place_row : (j : ℕ) → j < m → key_in keys (get_or ord j 0) ≡ k → get_or ord j 0 ≡ get_or starts p 0 + s
     place_row j g e =
-        let w = lowest j g in
+        let w = source.ordered.row j g in
         let named : name_of_row (row_at (set_in b) w.part w.slot) ≡ k = sym (asked.named.key w.part w.slot w.there) ∙ ap (key_in keys) (sym w.is) ∙ e in
         w.is ∙ one-row w.part w.slot w.there named
 
     module _ (dest₁ dest₂ : List ℕ) (stayed : Stayed starts n dest dest₁) (sent : Sent l keys ord m (all_entries l) dest₁ dest₂) where
       is-listed : (i : ℕ) → i < all_entries l → entry_name l i ≡ k → get_or dest₂ (get_or starts p 0 + s) 0 ≡ placing b l k
       is-listed i g e =
-          let w = (addressed dest refl).there i g in
+          let w = (addressed source.indexed asked).there i g in
           let at : get_or ord w.0 0 ≡ get_or starts p 0 + s = place_row w.0 w.1 (w.2 ∙ e) in
-          ap (λ (z : ℕ). get_or dest₂ z 0) (sym at) ∙ sent.listed i w.0 g w.1 w.2 ∙ sym (moved_listed l fits (placed b) k i g e)
+          ap (λ (z : ℕ). get_or dest₂ z 0) (sym at) ∙ sent.listed i w.0 g w.1 w.2 ∙ sym (moved_listed l (fits source.indexed asked) (placed b) k i g e)
 
       is-unlisted : ((i : ℕ) → i < all_entries l → entry_name l i ≡ k → ⊥) → get_or dest₂ (get_or starts p 0 + s) 0 ≡ placing b l k
       unfolding k
       is-unlisted free =
-          let index = asked.source.indexed in
+          let index = source.indexed in
           let there = part_there index p s h in
           sent.other (get_or starts p 0 + s) (λ i j g a e z. free i g (sym e ∙ ap (key_in keys) z ∙ asked.named.key p s h))
           ∙ stayed.own p (get_or starts p 0 + s) there (omega arith) (omega (arith, index.next p there))

@@ -14,7 +14,7 @@ use Rattle.paper.specs.Image.{Row, no_row, row_at}
 use Rattle.paper.specs.Mesh.{Entity, name, ent_of}
 use Rattle.paper.specs.Sound.{name_of_row}
 use Rattle.paper.specs.Placement.{objects, places_of}
-use Rattle.index.specs.Index.{set_in, max_rows}
+use Rattle.index.specs.Index.{set_in, max_rows, Indexed}
 use Rattle.rows.proofs.Laws.{part_room, part-rows}
 use Rattle.demands.proofs.Sound.Facts.{Sound}
 use Rattle.demands.proofs.Sound.Rows.{row, ent}
@@ -42,7 +42,7 @@ pub record Tallying (b starts table dest : List ℕ) (n : ℕ) (counts₀ counts
   pub small : (q : ℕ) → q < 64 → get_or counts q 0 ≤ get_or starts p 0
   pub few : left ≤ get_or starts p 0
 
-module _ {b l offs starts table ord dest counts₀ : List ℕ} {n m : ℕ} (asked : Tallyable b l offs starts table ord dest counts₀ n m) where
+module _ {b l offs starts table dest counts₀ : List ℕ} {n : ℕ} (index : Indexed b offs starts n) (asked : Tallyable b l starts table dest counts₀ n) where
   pub tallying_none : Tallying b starts table dest n counts₀ counts₀ 0 0
   tallying_none = record {
     to = omega arith;
@@ -52,10 +52,6 @@ module _ {b l offs starts table ord dest counts₀ : List ℕ} {n m : ℕ} (aske
     small = λ q h. omega (arith, asked.none q h);
     few = omega arith;
   }
-
-  -- the rows of a part, as its readers ask
-  pub tallying_part : (p : ℕ) → p < n → (p + 1 < length starts) × (get_or starts p 0 ≤ get_or starts (p + 1) 0)
-  tallying_part p h = (omega (arith, asked.source.indexed.few, asked.source.indexed.starts_room), omega (arith, asked.source.indexed.next p h))
 
   module _ (f : Sound (set_in b)) where
     -- an object goes to one of the parts
@@ -71,10 +67,10 @@ module _ {b l offs starts table ord dest counts₀ : List ℕ} {n m : ℕ} (aske
     module _ (counts : List ℕ) (p left : ℕ) (inv : Tallying b starts table dest n counts₀ counts p left) (h : p < n) (first count : ℕ) (ef : first ≡ get_or starts p 0 + 0)
         (ec : count ≡ get_or starts (p + 1) 0 - get_or starts p 0) where
       is_count : count ≡ length (get_or (set_in b) p [])
-      is_count = ec ∙ part-rows asked.source.indexed p h
+      is_count = ec ∙ part-rows index p h
 
       rows_fit : first + count ≤ max_rows
-      rows_fit = omega (arith, ef, is_count, part_room asked.source.indexed p h, asked.source.indexed.total_few)
+      rows_fit = omega (arith, ef, is_count, part_room index p h, index.total_few)
 
       pub tallying-asked : ObjectsCountable table dest counts first count
       tallying-asked = record {
@@ -86,7 +82,7 @@ module _ {b l offs starts table ord dest counts₀ : List ℕ} {n m : ℕ} (aske
             let s = g - first in
             let e : get_or starts p 0 + s ≡ g = omega (arith, ef) in
             let there = goes_there p s (omega (arith, is_count)) (ap (λ (k : ℕ). get_or table k 0) e ∙ o) in
-            omega (arith, there, ap (λ (k : ℕ). get_or dest k 0) e, asked.source.indexed.few);
+            omega (arith, there, ap (λ (k : ℕ). get_or dest k 0) e, index.few);
         small = λ q k. omega (arith, inv.small q k, ef);
       }
 
@@ -98,7 +94,7 @@ module _ {b l offs starts table ord dest counts₀ : List ℕ} {n m : ℕ} (aske
       tallying-more counts' some r =
           let ef' : first ≡ get_or starts p 0 = omega (arith, ef) in
           let part : (t : ℕ → Bool) → how_many t first count ≡ in_part b starts t p = λ t. ap (λ (k : ℕ). how_many t k count) ef' ∙ ap (how_many t (get_or starts p 0)) is_count in
-          let next = asked.source.indexed.next p h in
+          let next = index.next p h in
           record {
             to = omega arith;
             same = r.same ∙ inv.same;
@@ -158,10 +154,10 @@ module _ {b l offs starts table ord dest counts₀ : List ℕ} {n m : ℕ} (aske
 
     pub tallying_done : (counts : List ℕ) (p left : ℕ) → Tallying b starts table dest n counts₀ counts p left → n ≤ p → Tallied b l counts × (left ≡ moved_count b l)
     tallying_done counts p left inv h =
-        let e : p ≡ length (set_in b) = omega (arith, inv.to, asked.source.indexed.count) in (
+        let e : p ≡ length (set_in b) = omega (arith, inv.to, index.count) in (
           record {
             room = omega (arith, asked.room, inv.same);
-            entry = λ q k. inv.sent q (omega (arith, asked.source.indexed.few, asked.source.indexed.count))
+            entry = λ q k. inv.sent q (omega (arith, index.few, index.count))
                 ∙ ap (total (λ r. in_part b starts (goes table dest q) r)) e ∙ sent_is q;
           },
           inv.away ∙ ap (total (λ r. in_part b starts (leaves table dest r) r)) e ∙ away_is,

@@ -25,10 +25,10 @@ pub record ObjectsCountable (covered dest counts : List ℕ) (first n : ℕ) : T
   pub small : (q : ℕ) → q < 64 → get_or counts q 0 ≤ first
 
 -- row g, of part p, is counted, and `left` says whether it leaves
-pub record RowCounted (covered dest : List ℕ) (p g : ℕ) (counts counts' : List ℕ) (left : ℕ) : Type 0 where
+pub record RowCounted (covered dest : List ℕ) (p g : ℕ) (counts counts' : List ℕ) (left : Bool) : Type 0 where
   pub same : length counts' ≡ length counts
   pub sent : (q : ℕ) → q < 64 → get_or counts' q 0 ≡ get_or counts q 0 + cond (goes covered dest q g) 1 0
-  pub away : left ≡ cond (leaves covered dest p g) 1 0
+  pub away : left ≡ leaves covered dest p g
 
 -- the n rows from `first` on, of part p, are counted, and `left` of them leave
 pub record RowsCounted (covered dest : List ℕ) (p first n : ℕ) (counts counts' : List ℕ) (left : ℕ) : Type 0 where

@@ -5,11 +5,10 @@ use Rattle.index.specs.Index.{set_in, max_rows, Named}
 use Rattle.residence.specs.Tables.{Covers}
 use Rattle.moves.specs.Catalog.{Catalog}
 use Rattle.demands.specs.Passed.{ListPassed}
-use Rattle.plan.specs.Plan.{mesh, placing, Sourced, Destined}
+use Rattle.plan.specs.Plan.{mesh, placing, Destined}
 
--- a sound image with its tables, and a list that passes 13 to 16
-pub record Sendable (b l offs starts keys covered ord dest : List ℕ) (n m : ℕ) : Type 0 where
-  pub source : Sourced b offs starts ord n m
+-- the other tables of a sound image, and a list that passes 13 to 16
+pub record Sendable (b l starts keys covered ord dest : List ℕ) (m : ℕ) : Type 0 where
   pub named : Named b starts keys
   pub covers : Covers b starts covered
   pub catalog : Catalog (set_in b) keys ord covered m
@@ -17,8 +16,7 @@ pub record Sendable (b l offs starts keys covered ord dest : List ℕ) (n m : �
   pub room : max_rows + 1 ≤ length dest
 
 -- the part of each object, and no object is counted yet
-pub record Tallyable (b l offs starts covered ord dest counts : List ℕ) (n m : ℕ) : Type 0 where
-  pub source : Sourced b offs starts ord n m
+pub record Tallyable (b l starts covered dest counts : List ℕ) (n : ℕ) : Type 0 where
   pub covers : Covers b starts covered
   pub destined : Destined b l starts covered dest
   pub well : WellPlaced n (mesh b) (placing b l)

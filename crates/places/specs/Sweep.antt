@@ -2,22 +2,9 @@
 use Rattle.std.specs.Prelude.{ℕ, ◌+◌, ◌*◌, ◌≤◌, ◌<◌, ◌≡◌, List, length, get_or, set}
 use Rattle.paper.specs.Move.{entry_name, entry_part, all_entries}
 use Rattle.merge.specs.Runs.{key_in}
-use Rattle.moves.specs.Catalog.{Listing, Present, Behind, Lower}
+use Rattle.moves.specs.Catalog.{Present, Behind, Lower}
 
 -- ---- each row its own part
-
--- v stands in the n places from `first` on, and what stands before them is as it was
-pub record RangeFilled (first n v : ℕ) (dest dest' : List ℕ) : Type 0 where
-  pub same : length dest' ≡ length dest
-  pub here : (g : ℕ) → first ≤ g → g < first + n → get_or dest' g 0 ≡ v
-  pub before : (g : ℕ) → g < first → get_or dest' g 0 ≡ get_or dest g 0
-
--- the rows of n parts lie one after another, and each has a place
-pub record Stretches (starts dest : List ℕ) (n : ℕ) : Type 0 where
-  pub few : n ≤ 64
-  pub starts_room : 65 ≤ length starts
-  pub up : (p : ℕ) → p < n → get_or starts p 0 ≤ get_or starts (p + 1) 0
-  pub room : (p : ℕ) → p < n → get_or starts (p + 1) 0 ≤ length dest
 
 -- each row has its own part
 pub record Stayed (starts : List ℕ) (n : ℕ) (dest dest' : List ℕ) : Type 0 where
@@ -28,7 +15,6 @@ pub record Stayed (starts : List ℕ) (n : ℕ) (dest dest' : List ℕ) : Type 0
 
 -- entry i is whole, its entity is there, and all before `from` is below its name
 pub record EntryAhead (l keys ord dest : List ℕ) (count from i : ℕ) : Type 0 where
-  pub listing : Listing keys ord count
   pub room : (j : ℕ) → j < count → get_or ord j 0 < length dest
   pub whole : 8 * i + 8 ≤ length l
   pub part : entry_part l i < 256
@@ -41,9 +27,7 @@ pub record EntrySent (l keys ord : List ℕ) (count i : ℕ) (dest dest' : List 
   pub put : dest' ≡ set dest (get_or ord j 0) (entry_part l i)
 
 -- the entries are whole, their names ascend, and each names an entity
-pub record Addressed (l keys ord dest : List ℕ) (count : ℕ) : Type 0 where
-  pub listing : Listing keys ord count
-  pub room : (j : ℕ) → j < count → get_or ord j 0 < length dest
+pub record Addressed (l keys ord : List ℕ) (count : ℕ) : Type 0 where
   pub whole : (i : ℕ) → i < all_entries l → 8 * i + 8 ≤ length l
   pub part : (i : ℕ) → i < all_entries l → entry_part l i < 256
   pub up : (i : ℕ) → i + 1 < all_entries l → entry_name l i < entry_name l (i + 1)

@@ -1,91 +1,64 @@
 // Where the objects go: the part of each object's row after the move, how many objects each part then has, and how many changed their part.
 #![tactic(auto)]
 
-ghost use Rattle.std.specs.Prelude.{◌+◌, ◌≤◌, ◌≡◌, length};
+ghost use Rattle.std.specs.Prelude.{ℕ, ◌+◌, ◌≤◌, ◌<◌, ◌≡◌, length, get_or};
 ghost use Rattle.paper.specs.Move.{all_entries};
+ghost use Rattle.index.specs.Index.{max_rows};
 ghost use Rattle.plan.specs.Plan.{moved_count, Destined, Tallied};
 ghost use Rattle.places.specs.Sending.{Sendable, Tallyable};
 ghost use Rattle.places.specs.Counting.{ObjectsCountable, RowCounted, RowsCounted};
-ghost use Rattle.places.specs.Sweep.{RangeFilled, Stretches, Stayed, EntryAhead, EntrySent, Addressed, Sent};
+ghost use Rattle.places.specs.Sweep.{Stayed, EntryAhead, EntrySent, Addressed, Sent};
 
+use moves::Order;
 use paper::{Part, Slot};
-
-// v in `count` places from `first` on.
-fn fill(first: usize, count: usize, v: u8, dest: &mut [u8])
-    requires { first + count ≤ length dest.old }
-    ensures { RangeFilled first count v dest.old dest.new }
-{
-    let mut s = 0;
-    while s < count {
-        dest[first + s] = v;
-        s += 1;
-    }
-}
+use plan::Source;
+use rows::Tables;
 
 // Each row its own part.
-fn stay(starts: &[u32], n: u32, dest: &mut [u8])
-    requires { Stretches starts.now dest.old n }
-    ensures { Stayed starts.now n dest.old dest.new }
+fn stay(tables: &Tables, dest: &mut [u8])
+    requires { max_rows + 1 ≤ length dest.old }
+    ensures { Stayed tables.now.starts.now tables.now.parts dest.old dest.new }
 {
-    let mut p = 0;
-    while p < n {
-        let first = rows::row_of(starts, Part(p), Slot(0));
-        let count = rows::rows_in(starts, Part(p)) as usize;
-        fill(first, count, p as u8, dest);
-        p += 1;
+    for p in 0..tables.parts {
+        let first = tables.row_of(Part(p), Slot(0));
+        let count = tables.rows_in(Part(p)) as usize;
+        dest[first..first + count].fill(p as u8);
     }
 }
 
 // Sends the entity that entry i names to the entry's part, and answers its place.
-fn send_entry(
-    list: &[u8],
-    keys: &[u64],
-    ord: &[u32],
-    count: usize,
-    from: usize,
-    i: usize,
-    dest: &mut [u8],
-) -> usize
-    requires { EntryAhead list.now keys.now ord.now dest.old count from i }
-    ensures { EntrySent list.now keys.now ord.now count i dest.old dest.new result }
+fn send_entry(list: &[u8], order: &Order, from: usize, i: usize, dest: &mut [u8]) -> usize
+    requires { EntryAhead list.now order.now.keys.now order.now.ord.now dest.old order.now.count from i }
+    ensures { EntrySent list.now order.now.keys.now order.now.ord.now order.now.count i dest.old dest.new result }
 {
-    let name = moves::name_of(list, i);
-    let part = moves::part_of(list, i) as u8;
-    let j = moves::seek(keys, ord, count, from, name);
-    let row = ord[j] as usize;
-    dest[row] = part;
+    let j = order.seek(from, moves::name_of(list, i));
+    dest[order.ord[j] as usize] = moves::part_of(list, i) as u8;
     j
 }
 
 // Sends each entity that the list names. The names of the list ascend, and those of the entities too: one sweep finds them all.
-fn send(list: &[u8], keys: &[u64], ord: &[u32], count: usize, dest: &mut [u8])
-    requires { Addressed list.now keys.now ord.now dest.old count }
-    ensures { Sent list.now keys.now ord.now count (all_entries list.now) dest.old dest.new }
+fn send(list: &[u8], order: &Order, dest: &mut [u8])
+    requires addressed { Addressed list.now order.now.keys.now order.now.ord.now order.now.count }
+    requires rows { (j : ℕ) → j < order.now.count → get_or order.now.ord.now j 0 < length dest.old }
+    ensures { Sent list.now order.now.keys.now order.now.ord.now order.now.count (all_entries list.now) dest.old dest.new }
 {
-    let total = moves::entries(list);
-    let mut i = 0;
-    let mut from: usize = 0;
-    while i < total {
-        from = send_entry(list, keys, ord, count, from, i, dest);
-        i += 1;
+    let mut from = 0;
+    for i in 0..moves::entries(list) {
+        from = send_entry(list, order, from, i, dest);
     }
 }
 
-// Counts row g of part p where it is an object; 1 where it leaves the part.
-fn tally_row(g: usize, p: u32, covered: &[u8], dest: &[u8], counts: &mut [u32]) -> u32
+// Counts row g of part p where it is an object. Does it leave the part?
+fn tally_row(g: usize, p: u32, covered: &[u8], dest: &[u8], counts: &mut [u32]) -> bool
     requires { ObjectsCountable covered.now dest.now counts.old g 1 }
     ensures { RowCounted covered.now dest.now p g counts.old counts.new result }
 {
     if covered[g] != 0 {
-        return 0;
+        return false;
     }
-    let q = field::wide(dest[g]);
-    let at = q as usize;
-    counts[at] = counts[at] + 1;
-    if p == q {
-        return 0;
-    }
-    1
+    let q = u32::from(dest[g]);
+    counts[q as usize] += 1;
+    p != q
 }
 
 // Counts the `count` rows of part p from `first` on; how many leave the part.
@@ -100,60 +73,38 @@ fn tally_part(
     requires { ObjectsCountable covered.now dest.now counts.old first count }
     ensures { RowsCounted covered.now dest.now p first count counts.old counts.new result }
 {
-    let mut s = 0;
-    let mut left: u32 = 0;
-    while s < count {
-        let one = tally_row(first + s, p, covered, dest, counts);
-        left += one;
-        s += 1;
+    let mut left = 0;
+    for s in 0..count {
+        left += u32::from(tally_row(first + s, p, covered, dest, counts));
     }
     left
 }
 
-// The part of each row that is an object: its own, or the one that the list names.
-pub fn destinations(
-    image: &[u8],
-    list: &[u8],
-    offs: &[u32],
-    starts: &[u32],
-    keys: &[u64],
-    covered: &[u8],
-    ord: &[u32],
-    n: u32,
-    entities: usize,
-    dest: &mut [u8],
-)
-    requires { Sendable image.now list.now offs.now starts.now keys.now covered.now ord.now dest.old n entities }
-    ensures { Destined image.now list.now starts.now covered.now dest.new }
+// The part of each row that is an object: its own, or the one that the list names. The contract alone reads `covered`.
+pub fn destinations(source: &Source, list: &[u8], keys: &[u64], covered: &[u8], dest: &mut [u8])
+    requires { Sendable source.now.tables.image.now list.now source.now.tables.starts.now keys.now covered.now source.now.ord.now dest.old source.now.entities }
+    ensures { Destined source.now.tables.image.now list.now source.now.tables.starts.now covered.now dest.new }
 {
-    stay(starts, n, dest);
-    send(list, keys, ord, entities, dest);
+    stay(&source.tables, dest);
+    let order = Order {
+        keys,
+        ord: source.ord,
+        count: source.entities,
+    };
+    send(list, &order, dest);
 }
 
-// How many objects each part gets, and how many change their part.
-pub fn tally(
-    image: &[u8],
-    list: &[u8],
-    offs: &[u32],
-    starts: &[u32],
-    covered: &[u8],
-    ord: &[u32],
-    dest: &[u8],
-    n: u32,
-    entities: usize,
-    counts: &mut [u32],
-) -> u32
-    requires { Tallyable image.now list.now offs.now starts.now covered.now ord.now dest.now counts.old n entities }
-    ensures { Tallied image.now list.now counts.new × (result ≡ moved_count image.now list.now) }
+// How many objects each part gets, and how many change their part. The contract alone reads the list.
+pub fn tally(source: &Source, list: &[u8], covered: &[u8], dest: &[u8], counts: &mut [u32]) -> u32
+    requires { Tallyable source.now.tables.image.now list.now source.now.tables.starts.now covered.now dest.now counts.old source.now.tables.parts }
+    ensures { Tallied source.now.tables.image.now list.now counts.new × (result ≡ moved_count source.now.tables.image.now list.now) }
 {
-    let mut p = 0;
-    let mut left: u32 = 0;
-    while p < n {
-        let first = rows::row_of(starts, Part(p), Slot(0));
-        let count = rows::rows_in(starts, Part(p)) as usize;
-        let some = tally_part(first, count, p, covered, dest, counts);
-        left += some;
-        p += 1;
+    let tables = &source.tables;
+    let mut left = 0;
+    for p in 0..tables.parts {
+        let first = tables.row_of(Part(p), Slot(0));
+        let count = tables.rows_in(Part(p)) as usize;
+        left += tally_part(first, count, p, covered, dest, counts);
     }
     left
 }

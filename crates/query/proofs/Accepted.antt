@@ -2,15 +2,13 @@
 use Prim.Native.Nat.{ℕ, ◌+◌, ◌^◌, ◌≤◌, ◌<◌}
 use mathlib.Core.Path.{◌≡◌, sym, ap, ◌∙◌, subst}
 use mathlib.Core.List.{List, []}
-use mathlib.Core.Option.{Option}
 use lib.ListN.{length, get_or}
 use lib.Dec.{T, ltb, leb, eqb}
 use borrow.Author.Tests.{lt-ltb, le-ltb}
+use Rattle.std.specs.Prelude.{Option, None, Some, Ok}
 use Rattle.laws.specs.Lists.{flat, first_or, some?}
 use Rattle.laws.proofs.Tests.{split8}
 use Rattle.paper.specs.declared.Box.{Box}
-use Rattle.paper.specs.declared.LookupAnswer.{LookupAnswer}
-use Rattle.paper.specs.Promises.{LooksUp}
 use Rattle.paper.specs.Outcome.{Outcome, Place, refused, accepted, nowhere, must, ◌>>◌, ◌>>=◌}
 use Rattle.paper.specs.Image.{Row, Set, no_row, row_at}
 use Rattle.part_set.specs.Masks.{has}
@@ -23,7 +21,8 @@ use Rattle.index.specs.Index.{row_from, set_in, Indexed}
 use Rattle.paper.specs.declared.Rule.TheVariants.{Fields, Order}
 use Rattle.paper.specs.Sound.{judged}
 use Rattle.demands.specs.Passed.{AllPassed}
-use Rattle.query.specs.Vertices.{vertices}
+use Rattle.paper.specs.Answers.{box_answer}
+use Rattle.query.specs.Vertices.{box_within, vertices}
 
 -- ---- what its rows keep
 
@@ -60,9 +59,9 @@ unfoldable pub found_in : ℕ → List Row → Outcome Found
 found_in x rows = must 21 (some? (λ r. eqb x (name_of_row r)) rows) >> accepted (home_of (first_or no_row (λ r. eqb x (name_of_row r)) rows))
 
 module _ (b : List ℕ) (S : Set) (sound : sound_of b ≡ accepted S) where
-  pub lookup_is : (d k : ℕ) → lookup_of b d k ≡ found_in (name_of d k) (flat S)
+  pub lookup_is : (d k : ℕ) {x : ℕ} → x ≡ name_of d k → lookup_of b d k ≡ found_in x (flat S)
   unfolding lookup_of is_named found_in
-  lookup_is d k = bind_ok (sound_of b) _ S sound
+  lookup_is d k e = bind_ok (sound_of b) _ S sound ∙ ap (λ (x : ℕ). found_in x (flat S)) (sym e)
 
   box_is : (p : ℕ) → box_asked b p ≡ (must 20 (ltb p (length S)) >> accepted (box_around (vertices (get_or S p []))))
   unfolding box_asked vertices
@@ -76,8 +75,9 @@ module _ (b : List ℕ) (S : Set) (sound : sound_of b ≡ accepted S) where
   unfolding must ◌>>◌
   part-box p h = box_is p ∙ rw (lt-ltb p (length S) h)
 
-  pub part-answer : (p : ℕ) → p < length S → {o : Option Box} → o ≡ box_around (vertices (get_or S p [])) → accepted o ≡ box_asked b p
-  part-answer p h e = ap accepted e ∙ sym (part-box p h)
+  pub part-answer : (p : ℕ) → p < length S → (o : Option Box) → box_within o ≡ box_around (vertices (get_or S p [])) → box_answer (Ok o) ≡ box_asked b p
+  part-answer p h None e = ap accepted e ∙ sym (part-box p h)
+  part-answer p h (Some b) e = ap accepted e ∙ sym (part-box p h)
 
 -- ---- a refused one
 
@@ -89,7 +89,3 @@ module _ (b : List ℕ) (k : ℕ) (place : Place) (stops : sound_of b ≡ refuse
   pub box_refused : (p : ℕ) → refused k place ≡ box_asked b p
   unfolding box_asked ◌>>=◌
   box_refused p = rw stops
-
--- the dimension as a wider number
-pub same-entity : {b : List ℕ} {d e k : ℕ} {r : LookupAnswer} → d ≡ e → LooksUp b d k r → LooksUp b e k r
-same-entity {b} {k} {r} p l = subst (λ (x : ℕ). LooksUp b x k r) p l

@@ -12,57 +12,34 @@ ghost use Rattle.index.specs.Index.{row_from, Named};
 ghost use Rattle.sound.specs.Stages.{SoundIndex};
 ghost use Rattle.query.specs.Vertices.{box_within, vertices, further};
 
-use index::Found;
-use paper::{Box, BoxAnswer, CheckAnswer, LookupAnswer, Number, Part, Point, Refusal, Slot};
-// The box around the vertices so far, if there is one.
-#[derive(Clone, Copy)]
-enum Extent {
-    Empty,
-    Around(Box),
-}
+use paper::{Box, BoxAnswer, Home, LookupAnswer, Number, Part, Point, Slot, Unplaced};
+use rows::Tables;
 
 // The residence set and the owner of the row at `at`.
-fn home_at(image: &[u8], at: usize) -> LookupAnswer
+fn home_at(image: &[u8], at: usize) -> Home
     requires { at + 48 ≤ length image.now }
-    ensures { lookup_answer result ≡ accepted (home_of (row_from image.now at)) }
+    ensures { lookup_answer (Ok result) ≡ accepted (home_of (row_from image.now at)) }
 {
-    let residence = field::long_at(image, at + 8);
-    let owner = field::byte_at(image, at + 5);
-    LookupAnswer::Found {
-        residence: residence,
-        owner: Part(owner),
+    Home {
+        residence: field::long_at(image, at + 8),
+        owner: Part(field::byte_at(image, at + 5)),
     }
 }
 
 // Looks for the entity's name in one part after the other. All copies agree, so the first one answers.
-fn lookup_in(
-    image: &[u8],
-    offs: &[u32],
-    starts: &[u32],
-    keys: &[u64],
-    n: u32,
-    dimension: u32,
-    number: Number,
-) -> LookupAnswer
-    requires sound_index { SoundIndex image.now offs.now starts.now n }
-    requires named { Named image.now starts.now keys.now }
-    ensures { LooksUp image.now dimension number.0 result }
+fn lookup_in(tables: &Tables, keys: &[u64], dimension: u8, number: Number) -> LookupAnswer
+    requires sound_index { SoundIndex tables.now.image.now tables.now.offs.now tables.now.starts.now tables.now.parts }
+    requires named { Named tables.now.image.now tables.now.starts.now keys.now }
+    ensures { LooksUp tables.now.image.now dimension number.0 result }
 {
-    let name = dimension as u64 * 4294967296 + number.0 as u64;
-    let mut p = 0;
-    while p < n {
-        let found = index::find(keys, starts, Part(p), name);
-        match found {
-            Found::At(slot) => {
-                let at = rows::offset_of(offs, starts, Part(p), slot);
-                return home_at(image, at);
-            }
-            Found::Absent(_) => {
-                p += 1;
-            }
+    let name = index::name(u32::from(dimension), number.0);
+    for p in 0..tables.parts {
+        if let Ok(slot) = index::find(keys, tables.starts, Part(p), name) {
+            let at = tables.offset_of(Part(p), slot);
+            return Ok(home_at(tables.image, at));
         }
     }
-    LookupAnswer::Refused(Refusal::nowhere(21))
+    Err(Unplaced::NoSuchEntity.into())
 }
 
 // The coordinates of the vertex whose row is at `at`.
@@ -71,61 +48,53 @@ fn point_at(image: &[u8], at: usize) -> Point
     requires fits { T (body_fitting 0 (row_from image.now at).body) }
     ensures { result ≡ point_of (row_from image.now at) }
 {
-    let x = field::long_at(image, at + 24);
-    let y = field::long_at(image, at + 32);
-    let z = field::long_at(image, at + 40);
     Point {
-        x: field::real(x),
-        y: field::real(y),
-        z: field::real(z),
+        x: field::real(field::long_at(image, at + 24)),
+        y: field::real(field::long_at(image, at + 32)),
+        z: field::real(field::long_at(image, at + 40)),
     }
 }
 
 // The first vertex starts the box, and each later one grows it.
-fn grown(extent: Extent, p: Point) -> Extent
-    ensures { box_within result ≡ further (box_within extent) (p ∷ []) }
+fn grown(extent: Option<Box>, p: Point) -> Box
+    ensures { box_within (Some result) ≡ further (box_within extent) (p ∷ []) }
 {
     match extent {
-        Extent::Empty => Extent::Around(Box {
+        None => Box {
             least: p,
             greatest: p,
-        }),
-        Extent::Around(b) => Extent::Around(b.grow(p)),
+        },
+        Some(b) => b.grow(p),
     }
 }
 
-// The box so far, grown by the row at `at` where that is a vertex.
-fn with_row(extent: Extent, image: &[u8], at: usize) -> Extent
+// The box so far, if there is one, grown by the row at `at` where that is a vertex.
+fn with_row(extent: Option<Box>, image: &[u8], at: usize) -> Option<Box>
     requires at_in_bounds { at + 48 ≤ length image.now }
     requires fits { T (body_fitting (row_from image.now at).dim (row_from image.now at).body) }
     ensures { box_within result ≡ further (box_within extent) (vertices (row_from image.now at ∷ [])) }
 {
     if field::byte_at(image, at + 4) == 0 {
-        return grown(extent, point_at(image, at));
+        return Some(grown(extent, point_at(image, at)));
     }
     extent
 }
 
 // The box around the vertices of a part, in slot order.
-fn box_in(image: &[u8], offs: &[u32], starts: &[u32], n: u32, part: Part) -> BoxAnswer
-    requires { SoundIndex image.now offs.now starts.now n }
-    ensures { Bounds image.now part.0 result }
+fn box_in(tables: &Tables, part: Part) -> BoxAnswer
+    requires { SoundIndex tables.now.image.now tables.now.offs.now tables.now.starts.now tables.now.parts }
+    ensures { Bounds tables.now.image.now part.0 result }
 {
-    if n <= part.0 {
-        return BoxAnswer::Refused(Refusal::nowhere(20));
+    if tables.parts <= part.0 {
+        return Err(Unplaced::NoSuchPart.into());
     }
-    let rows = rows::rows_in(starts, part);
-    let mut extent = Extent::Empty;
-    let mut s = 0;
-    while s < rows {
-        let at = rows::offset_of(offs, starts, part, Slot(s));
-        extent = with_row(extent, image, at);
-        s += 1;
+    let rows = tables.rows_in(part);
+    let mut extent = None;
+    for s in 0..rows {
+        let at = tables.offset_of(part, Slot(s));
+        extent = with_row(extent, tables.image, at);
     }
-    match extent {
-        Extent::Empty => BoxAnswer::NoVertex,
-        Extent::Around(b) => BoxAnswer::Around(b),
-    }
+    Ok(extent)
 }
 
 // The residence set and the owner of an entity. No entity has a dimension above 3.
@@ -135,19 +104,14 @@ pub fn lookup(image: &[u8], dimension: u8, number: Number) -> LookupAnswer
     let mut offs = [0u32; paper::ROW_ENTRIES];
     let mut starts = [0u32; paper::PART_ENTRIES];
     let mut keys = [0u64; paper::ROW_ENTRIES];
-    let surveyed = sound::survey(image, &mut offs, &mut starts, &mut keys);
-    match surveyed {
-        CheckAnswer::Refused(refusal) => LookupAnswer::Refused(refusal),
-        CheckAnswer::Sound { parts, rows } => lookup_in(
-            image,
-            &offs,
-            &starts,
-            &keys,
-            parts,
-            field::wide(dimension),
-            number,
-        ),
-    }
+    let sound = sound::survey(image, &mut offs, &mut starts, &mut keys)?;
+    let tables = Tables {
+        image,
+        offs: &offs,
+        starts: &starts,
+        parts: sound.parts,
+    };
+    lookup_in(&tables, &keys, dimension, number)
 }
 
 // The least and greatest x, y, z of a part's vertices.
@@ -157,9 +121,12 @@ pub fn box_of(image: &[u8], part: Part) -> BoxAnswer
     let mut offs = [0u32; paper::ROW_ENTRIES];
     let mut starts = [0u32; paper::PART_ENTRIES];
     let mut keys = [0u64; paper::ROW_ENTRIES];
-    let surveyed = sound::survey(image, &mut offs, &mut starts, &mut keys);
-    match surveyed {
-        CheckAnswer::Refused(refusal) => BoxAnswer::Refused(refusal),
-        CheckAnswer::Sound { parts, rows } => box_in(image, &offs, &starts, parts, part),
-    }
+    let sound = sound::survey(image, &mut offs, &mut starts, &mut keys)?;
+    let tables = Tables {
+        image,
+        offs: &offs,
+        starts: &starts,
+        parts: sound.parts,
+    };
+    box_in(&tables, part)
 }

@@ -1,123 +1,96 @@
 // A number as decimal digits, on which a real is worked out exactly.
 ghost use Rattle.std.specs.Prelude.{◌≤◌};
 
-use field::wide;
-
 // Digits from the highest place to the lowest, the point behind the first 310: room for every finite real, and for half of the gap between two.
 pub const PLACES: usize = 1385;
 
 pub const POINT: usize = 310;
 
-// Half the number.
-fn halve(digits: &mut [u8; PLACES]) {
-    let mut i = 0;
-    let mut rest = 0u32;
-    while i < PLACES {
-        let left = 10 * rest + wide(digits[i]);
-        digits[i] = (left / 2) as u8;
-        rest = left % 2;
-        i += 1;
-    }
+#[derive(Clone, Copy, PartialEq, PartialOrd)]
+pub struct Digits {
+    pub places: [u8; PLACES],
 }
 
-// The digits of a whole number, the last of them before `end`.
-pub fn spell(digits: &mut [u8; PLACES], end: usize, number: u64)
-    requires { end ≤ 1385 }
-{
-    let mut i = end;
-    let mut left = number;
-    while i > 0 {
-        i -= 1;
-        digits[i] = (left % 10) as u8;
-        left = left / 10;
-    }
-}
-
-// More, added to the number.
-pub fn add(digits: &mut [u8; PLACES], more: &[u8; PLACES]) {
-    let mut i = PLACES;
-    let mut carry = 0u32;
-    while i > 0 {
-        i -= 1;
-        let sum = wide(digits[i]) + wide(more[i]) + carry;
-        digits[i] = (sum % 10) as u8;
-        carry = sum / 10;
-    }
-}
-
-// Whether the one number is less than the other.
-pub fn less(a: &[u8; PLACES], b: &[u8; PLACES]) -> bool {
-    let mut i = 0;
-    while i < PLACES {
-        if a[i] != b[i] {
-            return a[i] < b[i];
+impl Digits {
+    // A whole number, its last digit before `end`, and zeros.
+    pub fn whole(number: u64, end: usize) -> Digits
+        requires { end ≤ 1385 }
+    {
+        let mut places = [0; PLACES];
+        let mut left = number;
+        for digit in places[..end].iter_mut().rev() {
+            *digit = (left % 10) as u8;
+            left /= 10;
         }
-        i += 1;
+        Digits { places }
     }
-    false
-}
 
-// Where the first digit that is not 0 stands.
-pub fn first(digits: &[u8; PLACES]) -> usize
-    ensures { result ≤ 1385 }
-{
-    let mut i = 0;
-    while i < PLACES {
-        if digits[i] != 0 {
-            return i;
+    // Half the number.
+    fn halve(&mut self) {
+        let mut rest = 0;
+        for digit in self.places.iter_mut() {
+            let left = 10 * rest + u32::from(*digit);
+            *digit = (left / 2) as u8;
+            rest = left % 2;
         }
-        i += 1;
     }
-    i
-}
 
-// Behind the last digit that is not 0.
-pub fn last(digits: &[u8; PLACES]) -> usize
-    ensures { result ≤ 1385 }
-{
-    let mut i = PLACES;
-    while i > 0 {
-        if digits[i - 1] != 0 {
-            return i;
+    // More, added to the number.
+    pub fn add(&mut self, more: &Digits) {
+        let mut carry = 0;
+        for (digit, other) in self.places.iter_mut().zip(&more.places).rev() {
+            let sum = u32::from(*digit) + u32::from(*other) + carry;
+            *digit = (sum % 10) as u8;
+            carry = sum / 10;
         }
-        i -= 1;
     }
-    0
-}
 
-// Zeros from `end` on.
-pub fn clear(digits: &mut [u8; PLACES], end: usize) {
-    let mut i = end;
-    while i < PLACES {
-        digits[i] = 0;
-        i += 1;
+    // Where the first digit that is not 0 stands.
+    pub fn first(&self) -> usize
+        ensures { result ≤ 1385 }
+    {
+        self.places
+            .iter()
+            .position(|digit| *digit != 0)
+            .unwrap_or(PLACES)
     }
-}
 
-// A number's digits as characters.
-pub fn characters(digits: &mut [u8; PLACES]) {
-    let mut i = 0;
-    while i < PLACES {
-        digits[i] = (48 + wide(digits[i]) % 10) as u8;
-        i += 1;
+    // Behind the last digit that is not 0.
+    pub fn last(&self) -> usize
+        ensures { result ≤ 1385 }
+    {
+        match self.places.iter().rposition(|digit| *digit != 0) {
+            Some(i) => i + 1,
+            None => 0,
+        }
     }
-}
 
-// Twice the number, so many times.
-pub fn double_times(digits: &mut [u8; PLACES], times: u64) {
-    let mut left = times;
-    while left > 0 {
-        let same = *digits;
-        add(digits, &same);
-        left -= 1;
+    // Zeros from `end` on.
+    pub fn clear(&mut self, end: usize) {
+        for digit in self.places.iter_mut().skip(end) {
+            *digit = 0;
+        }
     }
-}
 
-// Half the number, so many times.
-pub fn halve_times(digits: &mut [u8; PLACES], times: u64) {
-    let mut left = times;
-    while left > 0 {
-        halve(digits);
-        left -= 1;
+    // The digits as characters.
+    pub fn characters(&mut self) {
+        for digit in self.places.iter_mut() {
+            *digit = b'0' + *digit % 10;
+        }
+    }
+
+    // Twice the number, so many times.
+    pub fn double_times(&mut self, times: u64) {
+        for _ in 0..times {
+            let same = *self;
+            self.add(&same);
+        }
+    }
+
+    // Half the number, so many times.
+    pub fn halve_times(&mut self, times: u64) {
+        for _ in 0..times {
+            self.halve();
+        }
     }
 }

@@ -8,22 +8,22 @@ mod rounding;
 ghost use Rattle.std.specs.Prelude.{◌≤◌, ◌<◌};
 
 use decimal::writing::{put_byte, put_text};
-use digits::{PLACES, POINT};
+use digits::{Digits, POINT};
+use rounding::{FRACTIONS, NOT_FINITE};
 
 // The digits before the point, from `start` on, or a 0 where there is none.
-fn put_whole(digits: &[u8; PLACES], start: usize, out: &mut [u8], at: usize) -> usize
+fn put_whole(digits: &Digits, start: usize, out: &mut [u8], at: usize) -> usize
     requires { at ≤ 1 }
     ensures { result ≤ 311 }
 {
     if start < POINT {
-        let text = &digits[..];
-        return put_text(out, at, &text[start..POINT]);
+        return put_text(out, at, &digits.places[start..POINT]);
     }
-    put_byte(out, at, 48)
+    put_byte(out, at, b'0')
 }
 
 // The point and the digits behind it, up to `end`, where there are any.
-fn put_fraction(digits: &[u8; PLACES], end: usize, out: &mut [u8], at: usize) -> usize
+fn put_fraction(digits: &Digits, end: usize, out: &mut [u8], at: usize) -> usize
     requires end_bound { end ≤ 1385 }
     requires at_bound { at ≤ 311 }
     ensures { result ≤ 1387 }
@@ -31,20 +31,19 @@ fn put_fraction(digits: &[u8; PLACES], end: usize, out: &mut [u8], at: usize) ->
     if end <= POINT {
         return at;
     }
-    let fraction = put_byte(out, at, 46);
-    let text = &digits[..];
-    put_text(out, fraction, &text[POINT..end])
+    let fraction = put_byte(out, at, b'.');
+    put_text(out, fraction, &digits.places[POINT..end])
 }
 
 // The digits on both sides of the point.
-fn put_digits(number: [u8; PLACES], out: &mut [u8], at: usize) -> usize
+fn put_digits(number: Digits, out: &mut [u8], at: usize) -> usize
     requires { at ≤ 1 }
     ensures { result ≤ 1387 }
 {
     let mut digits = number;
-    let start = digits::first(&digits);
-    let end = digits::last(&digits);
-    digits::characters(&mut digits);
+    let start = digits.first();
+    let end = digits.last();
+    digits.characters();
     let point = put_whole(&digits, start, out, at);
     put_fraction(&digits, end, out, point)
 }
@@ -53,8 +52,8 @@ fn put_digits(number: [u8; PLACES], out: &mut [u8], at: usize) -> usize
 fn put_sign(bits: u64, out: &mut [u8]) -> usize
     ensures { result ≤ 1 }
 {
-    if bits / 9223372036854775808 == 1 {
-        return put_byte(out, 0, 45);
+    if bits >> 63 == 1 {
+        return put_byte(out, 0, b'-');
     }
     0
 }
@@ -63,18 +62,14 @@ fn put_sign(bits: u64, out: &mut [u8]) -> usize
 pub fn put_real(x: f64, out: &mut [u8]) -> usize
     ensures { result ≤ 1387 }
 {
-    if x != x {
+    if x.is_nan() {
         return put_text(out, 0, b"nan");
     }
-    let bits = f64::to_bits(x);
+    let bits = x.to_bits();
     let at = put_sign(bits, out);
-    let exponent = bits / 4503599627370496 % 2048;
-    if exponent == 2047 {
+    let exponent = bits / FRACTIONS % (NOT_FINITE + 1);
+    if exponent == NOT_FINITE {
         return put_text(out, at, b"inf");
     }
-    put_digits(
-        rounding::of_size(bits % 4503599627370496, exponent),
-        out,
-        at,
-    )
+    put_digits(rounding::of_size(bits % FRACTIONS, exponent), out, at)
 }

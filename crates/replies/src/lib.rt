@@ -1,76 +1,65 @@
 // The line for each answer, on standard output, and the status that goes with it.
 #![tactic(auto)]
 
-use paper::{BoxAnswer, CheckAnswer, LookupAnswer, Point, Refusal};
-use text::Written;
+use paper::{BoxAnswer, CheckAnswer, Home, LookupAnswer, Moved, Point, Refusal, Sound};
+use reasons::Status;
 
-fn say(rt: &HostRuntime, words: &[u8]) {
-    let _ = rt.write_all(words);
-}
-
-// A word and a number behind it.
-fn say_number(rt: &HostRuntime, word: &[u8], n: u64) {
-    say(rt, word);
-    let _ = rt.print(n);
-}
-
-// Says the last words of an answer. Where they cannot be written, the answer was not given: the reason is on standard error, and the status 2.
-fn end(rt: &HostRuntime, words: &[u8], status: u64) -> u64 {
+// Says the last words of an answer. Where they cannot be written, the answer was not given: the reason is on standard error.
+fn end(rt: &HostRuntime, words: &[u8], status: Status) -> Status {
     match rt.write_all(words) {
         Ok(()) => status,
         Err(why) => {
             reasons::fail(&rt.stderr(), b"composthum: standard output", &why);
-            2
+            Status::Failed
         }
     }
 }
 
-pub fn refused(rt: &HostRuntime, r: Refusal) -> u64 {
-    say_number(rt, b"refused ", r.number as u64);
-    say_number(rt, b" ", r.major as u64);
-    say_number(rt, b" ", r.minor as u64);
-    say(rt, b"  ");
-    reasons::of(rt, r.number);
-    end(rt, b"\n", 1)
+pub fn refused(rt: &HostRuntime, r: Refusal) -> Status {
+    let Refusal {
+        number,
+        major,
+        minor,
+    } = r;
+    let reason = reasons::of(number);
+    let _ = print!(rt; "refused {number} {major} {minor}  {reason}");
+    end(rt, b"\n", Status::Refused)
 }
 
-pub fn checked(rt: &HostRuntime, answer: CheckAnswer) -> u64 {
+pub fn checked(rt: &HostRuntime, answer: CheckAnswer) -> Status {
     match answer {
-        CheckAnswer::Refused(r) => refused(rt, r),
-        CheckAnswer::Sound { parts, rows } => {
-            say_number(rt, b"sound ", parts as u64);
-            say_number(rt, b" parts ", rows as u64);
-            end(rt, b" rows\n", 0)
+        Err(r) => refused(rt, r),
+        Ok(Sound { parts, rows }) => {
+            let _ = print!(rt; "sound {parts} parts {rows}");
+            end(rt, b" rows\n", Status::Done)
         }
     }
 }
 
-pub fn moved(rt: &HostRuntime, length: u32, rows: u32, moved: u32) -> u64 {
-    say_number(rt, b"moved ", moved as u64);
-    say_number(rt, b" objects ", length as u64);
-    say_number(rt, b" bytes ", rows as u64);
-    end(rt, b" rows\n", 0)
+pub fn moved(rt: &HostRuntime, answer: Moved) -> Status {
+    let Moved {
+        length,
+        rows,
+        moved,
+    } = answer;
+    let _ = print!(rt; "moved {moved} objects {length} bytes {rows}");
+    end(rt, b" rows\n", Status::Done)
 }
 
 // The parts of a set, each with a blank before it.
 fn say_parts(rt: &HostRuntime, set: u64) {
-    let mut part = 0u64;
-    while part < 64 {
-        if (set >> part) % 2 == 1 {
-            say_number(rt, b" ", part);
-        }
-        part += 1;
+    for part in part_set::parts(set) {
+        let _ = print!(rt; " {part}");
     }
 }
 
-pub fn found(rt: &HostRuntime, answer: LookupAnswer) -> u64 {
+pub fn found(rt: &HostRuntime, answer: LookupAnswer) -> Status {
     match answer {
-        LookupAnswer::Refused(r) => refused(rt, r),
-        LookupAnswer::Found { residence, owner } => {
-            say_number(rt, b"owner ", owner.0 as u64);
-            say(rt, b" residence");
+        Err(r) => refused(rt, r),
+        Ok(Home { residence, owner }) => {
+            let _ = print!(rt; "owner {} residence", owner.0);
             say_parts(rt, residence);
-            end(rt, b"\n", 0)
+            end(rt, b"\n", Status::Done)
         }
     }
 }
@@ -79,51 +68,49 @@ pub fn found(rt: &HostRuntime, answer: LookupAnswer) -> u64 {
 fn say_real(rt: &HostRuntime, x: f64) {
     let mut text = [0u8; 1387];
     let count = real::put_real(x, &mut text);
-    say(rt, &text[..count]);
+    let _ = rt.write_all(&text[..count]);
 }
 
 fn say_point(rt: &HostRuntime, p: Point) {
     say_real(rt, p.x);
-    say(rt, b" ");
+    let _ = print!(rt; " ");
     say_real(rt, p.y);
-    say(rt, b" ");
+    let _ = print!(rt; " ");
     say_real(rt, p.z);
 }
 
-pub fn boxed(rt: &HostRuntime, answer: BoxAnswer) -> u64 {
+pub fn boxed(rt: &HostRuntime, answer: BoxAnswer) -> Status {
     match answer {
-        BoxAnswer::Refused(r) => refused(rt, r),
-        BoxAnswer::NoVertex => end(rt, b"no vertex\n", 0),
-        BoxAnswer::Around(b) => {
+        Err(r) => refused(rt, r),
+        Ok(None) => end(rt, b"no vertex\n", Status::Done),
+        Ok(Some(b)) => {
             say_point(rt, b.least);
-            say(rt, b" .. ");
+            let _ = print!(rt; " .. ");
             say_point(rt, b.greatest);
-            end(rt, b"\n", 0)
+            end(rt, b"\n", Status::Done)
         }
     }
 }
 
 // The lines of a sound set.
-fn listed(rt: &HostRuntime, image: &[u8]) -> u64 {
+fn listed(rt: &HostRuntime, image: &[u8]) -> Status {
     let mut out = [0u8; 262144];
-    let written = text::write_listing(image, &mut out);
-    match written {
-        Written::Bytes(count) => end(rt, &out[..count], 0),
-        Written::Short => 2,
+    match text::write_listing(image, &mut out) {
+        Some(count) => end(rt, &out[..count], Status::Done),
+        None => Status::Failed,
     }
 }
 
-pub fn listing(rt: &HostRuntime, image: &[u8]) -> u64 {
+pub fn listing(rt: &HostRuntime, image: &[u8]) -> Status {
     if 65536 < image.len() {
         return end(
             rt,
             b"too long  a listing is of an image of at most 65,536 bytes\n",
-            1,
+            Status::Refused,
         );
     }
-    let answer = sound::check(image);
-    match answer {
-        CheckAnswer::Refused(r) => refused(rt, r),
-        CheckAnswer::Sound { parts, rows } => listed(rt, image),
+    match sound::check(image) {
+        Err(r) => refused(rt, r),
+        Ok(_) => listed(rt, image),
     }
 }

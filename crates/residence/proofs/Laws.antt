@@ -1,5 +1,5 @@
 -- Rule 11 by the table of covered rows, and the copies of a row one after the other. Assumes nothing.
-use Prim.Native.Nat.{ℕ, suc, ◌+◌, ◌-◌, ◌*◌, ◌^◌, ◌≤◌, ◌<◌}
+use Prim.Native.Nat.{ℕ, suc, ◌+◌, ◌-◌, ◌*◌, ◌^◌, ◌<◌}
 use native.Mathlib.Omega.{arith}
 use mathlib.Core.Path.{◌≡◌, refl, sym, ap, ap₂, ◌∙◌, subst}
 use mathlib.Core.Bool.{Bool, true, false, not, ◌&&◌, ◌||◌}
@@ -17,9 +17,9 @@ use Rattle.laws.proofs.Ascending.{left_out}
 use Rattle.laws.proofs.Places.{index_get_or}
 use Rattle.field.specs.Bytes.{u32_at, u64_at}
 use Rattle.field.proofs.Reading.{u64_lt}
-use Rattle.part_set.specs.Masks.{has, parts_in, others, count, lowest_of, Rest}
+use Rattle.part_set.specs.Masks.{has, parts_in, others, count, Turn}
 use Rattle.part_set.proofs.MaskParts.{parts_in_in, in_parts_in, parts_in_ascends, others_in, in_others, others-ascends, others-count}
-use Rattle.part_set.proofs.Walk.{parts_none, none_parts, rest_is}
+use Rattle.part_set.proofs.Walk.{parts_none, none_parts}
 use Rattle.paper.specs.Image.{Row, Set, remotes, row_at}
 use Rattle.paper.specs.Mesh.{ent_of, name}
 use Rattle.paper.specs.Sound.{name_of_row, remote_slot_of}
@@ -41,56 +41,44 @@ use Rattle.residence.proofs.Names.{covered_slot}
 
 -- what is left to ask gives what was to be asked
 pub record CopiesInv (b starts covered : List ℕ) (o₀ m₀ o m : ℕ) : Type 0 where
-  pub small : m < 2 ^ 64
   pub there : CopiesThere b starts covered o (parts_in m)
   pub left : copies_all_covered b starts covered o (parts_in m) ≡ copies_all_covered b starts covered o₀ (parts_in m₀)
 
 module _ {b starts covered : List ℕ} where
-  pub copies_start : (o m : ℕ) → m < 2 ^ 64 → CopiesThere b starts covered o (parts_in m) → CopiesInv b starts covered o m o m
-  copies_start o m h t = record { small = h; there = t; left = refl }
-
   module _ {o₀ m₀ o m : ℕ} (inv : CopiesInv b starts covered o₀ m₀ o m) where
-    ahead : {r : ℕ} → Rest m r → CopiesThere b starts covered o (lowest_of m ∷ parts_in r)
-    ahead w = subst (λ (qs : List ℕ). CopiesThere b starts covered o qs) w.parts inv.there
+    -- the copy in the part that is taken is there
+    module _ {q r : ℕ} (turn : Turn m q r) where
+      ahead : CopiesThere b starts covered o (q ∷ parts_in r)
+      ahead = subst (λ (qs : List ℕ). CopiesThere b starts covered o qs) turn.parts inv.there
 
-    -- the copy in the least part is there
-    module _ (pos : 0 < m) where
-      pub copy-slot-there : o + 4 ≤ length b
-      copy-slot-there = omega (arith, (ahead (rest_is m pos inv.small)).slots)
+      module _ {t row : ℕ} (et : t ≡ u32_at b o) (er : row ≡ get_or starts q 0 + t) where
+        pub copy-row-there : row < length covered
+        copy-row-there =
+            let z : o + 4 * 0 ≡ o = omega arith in
+            let l = subst (λ (i : ℕ). get_or starts q 0 + u32_at b i < length covered) z (ahead.rows 0 (omega arith)) in
+            rw (er, et) l
 
-      pub copy-row-there : (q t row : ℕ) → q ≡ lowest_of m → t ≡ u32_at b o → row ≡ get_or starts q 0 + t → row < length covered
-      copy-row-there q t row eq et er =
-          let z : o + 4 * 0 ≡ o = omega arith in
-          let l = subst (λ (i : ℕ). get_or starts (lowest_of m) 0 + u32_at b i < length covered) z ((ahead (rest_is m pos inv.small)).rows 0 (omega arith)) in
-          rw (er, eq, et) l
+        -- and its entry is asked first
+        next-left : copies_all_covered b starts covered o₀ (parts_in m₀) ≡ (eqb (get_or covered row 0) 1 && copies_all_covered b starts covered (o + 4) (parts_in r))
+        unfolding copies_all_covered
+        next-left =
+            sym inv.left ∙ ap (copies_all_covered b starts covered o) turn.parts
+            ∙ ap (λ (k : ℕ). eqb (get_or covered k 0) 1 && copies_all_covered b starts covered (o + 4) (parts_in r)) (sym (er ∙ ap (λ (x : ℕ). get_or starts q 0 + x) et))
 
-    -- and its entry is asked first
-    module _ {r : ℕ} (w : Rest m r) (q t row : ℕ) (eq : q ≡ lowest_of m) (et : t ≡ u32_at b o) (er : row ≡ get_or starts q 0 + t) where
-      next-left : copies_all_covered b starts covered o₀ (parts_in m₀) ≡ (eqb (get_or covered row 0) 1 && copies_all_covered b starts covered (o + 4) (parts_in r))
-      unfolding copies_all_covered
-      next-left =
-          sym inv.left ∙ ap (copies_all_covered b starts covered o) w.parts
-          ∙ ap (λ (k : ℕ). eqb (get_or covered k 0) 1 && copies_all_covered b starts covered (o + 4) (parts_in r)) (sym (er ∙ ap₂ (λ (x y : ℕ). get_or starts x 0 + y) eq et))
+        pub copies-turn : get_or covered row 0 ≡ 1 → CopiesInv b starts covered o₀ m₀ (o + 4) r
+        copies-turn e = record {
+          there = record {
+            room = inv.there.room;
+            slots = omega (arith, ahead.slots);
+            rows = λ i h.
+                let e : o + 4 * suc i ≡ o + 4 + 4 * i = omega arith in
+                subst (λ (k : ℕ). get_or starts (get_or (parts_in r) i 0) 0 + u32_at b k < length covered) e (ahead.rows (suc i) (omega arith));
+          };
+          left = sym (next-left ∙ ap (λ (t : Bool). t && copies_all_covered b starts covered (o + 4) (parts_in r)) (eq-eqb _ _ e));
+        }
 
-      pub copies-turn : get_or covered row 0 ≡ 1 → CopiesInv b starts covered o₀ m₀ (o + 4) r
-      copies-turn e = record {
-        small = omega (arith, inv.small, w.less);
-        there = record {
-          room = inv.there.room;
-          slots = omega (arith, (ahead w).slots);
-          rows = λ i h.
-              let e : o + 4 * suc i ≡ o + 4 + 4 * i = omega arith in
-              subst (λ (k : ℕ). get_or starts (get_or (parts_in r) i 0) 0 + u32_at b k < length covered) e ((ahead w).rows (suc i) (omega arith));
-        };
-        left = sym (next-left ∙ ap (λ (t : Bool). t && copies_all_covered b starts covered (o + 4) (parts_in r)) (eq-eqb _ _ e));
-      }
-
-      copies-stop : (get_or covered row 0 ≡ 1 → ⊥) → false ≡ copies_all_covered b starts covered o₀ (parts_in m₀)
-      copies-stop ne = sym (next-left ∙ ap (λ (t : Bool). t && copies_all_covered b starts covered (o + 4) (parts_in r)) (ne_eqb _ _ ne))
-
-    pub copies_open : 0 < m → (q t row : ℕ) → q ≡ lowest_of m → t ≡ u32_at b o → row ≡ get_or starts q 0 + t → (get_or covered row 0 ≡ 1 → ⊥)
-        → false ≡ copies_all_covered b starts covered o₀ (parts_in m₀)
-    copies_open pos q t row eq et er ne = copies-stop (rest_is m pos inv.small) q t row eq et er ne
+        pub copies_open : (get_or covered row 0 ≡ 1 → ⊥) → false ≡ copies_all_covered b starts covered o₀ (parts_in m₀)
+        copies_open ne = sym (next-left ∙ ap (λ (t : Bool). t && copies_all_covered b starts covered (o + 4) (parts_in r)) (ne_eqb _ _ ne))
 
     pub copies_end : m ≡ 0 → true ≡ copies_all_covered b starts covered o₀ (parts_in m₀)
     unfolding copies_all_covered
@@ -130,7 +118,7 @@ every-others f m p h t =
 
 -- ---- the judgement of a row
 
-module _ {b offs starts cov : List ℕ} (index : Indexed b offs starts (length (set_in b))) (y : T (are_bytes b)) (pass : PassedAhead Residence (set_in b)) (covers : Covers b starts cov)
+module _ {b offs starts cov : List ℕ} {n : ℕ} (index : Indexed b offs starts n) (y : T (are_bytes b)) (pass : PassedAhead Residence (set_in b)) (covers : Covers b starts cov)
     (p s : ℕ) (h : s < length (get_or (set_in b) p [])) where
   abbrev S : Set
   S = set_in b

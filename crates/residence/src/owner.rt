@@ -1,7 +1,7 @@
 // Rule 12: an entity is owned by the poorest of its parts; and the partition objects of each part.
 ghost use Rattle.std.specs.Prelude.{◌+◌, ◌≤◌, ◌<◌, ◌≡◌, cond, [], length, get_or, ltb, eqb};
 ghost use Rattle.part_set.specs.Masks.{parts_in};
-ghost use Rattle.index.specs.Index.{set_in, Indexed};
+ghost use Rattle.rows.specs.Tables.{set_of};
 ghost use Rattle.paper.specs.declared.Rule.TheVariants.{Owner};
 ghost use Rattle.paper.specs.Sound.{judged};
 ghost use Rattle.demands.specs.Passed.{PassedAhead};
@@ -9,27 +9,17 @@ ghost use Rattle.residence.specs.Tables.{Counted};
 ghost use Rattle.residence.specs.Owners.{open_from, poorest_of, RowsCountable, OpenCounted};
 
 use paper::{Part, Slot};
-
-// 1 for a row that is not covered.
-fn open(entry: u8) -> u32
-    ensures { result ≡ cond (eqb entry 0) 1 0 }
-{
-    if entry == 0 {
-        return 1;
-    }
-    0
-}
+use rows::Tables;
 
 // How many of `count` entries from `first` on are 0.
 fn count_open(covered: &[u8], first: usize, count: u32) -> u32
     requires { first + count ≤ length covered.now }
     ensures { result ≡ open_from covered.now first count }
 {
+    // A chain of filter and count takes five times as long here.
     let mut found = 0;
-    let mut i = 0;
-    while i < count {
-        found = found + open(covered[first + i as usize]);
-        i = i + 1;
+    for &entry in &covered[first..first + count as usize] {
+        found += u32::from(entry == 0);
     }
     found
 }
@@ -39,12 +29,9 @@ pub fn count_objects(starts: &[u32], covered: &[u8], n: u32, counts: &mut [u32])
     requires { RowsCountable starts.now covered.now n counts.old }
     ensures { OpenCounted starts.now covered.now n counts.old counts.new }
 {
-    let mut p = 0;
-    while p < n {
-        let first = rows::row_of(starts, Part(p), Slot(0));
-        let count = rows::rows_in(starts, Part(p));
-        counts[p as usize] = count_open(covered, first, count);
-        p = p + 1;
+    for p in 0..n as usize {
+        let first = starts[p];
+        counts[p] = count_open(covered, first as usize, starts[p + 1] - first);
     }
 }
 
@@ -66,30 +53,20 @@ pub fn owner_of(mask: u64, counts: &[u32]) -> u32
     ensures { (result ≡ poorest_of counts.now (parts_in mask)) × (result < 64) }
 {
     let mut best = part_set::lowest(mask);
-    let mut left = part_set::rest(mask);
-    while left != 0 {
-        best = poorer(counts, best, part_set::lowest(left));
-        left = part_set::rest(left);
+    for part in part_set::parts(part_set::rest(mask)) {
+        best = poorer(counts, best, part);
     }
     best
 }
 
 // Whether the row's owner is the one that its residence set gives.
-pub fn owner(
-    image: &[u8],
-    offs: &[u32],
-    starts: &[u32],
-    counts: &[u32],
-    part: Part,
-    slot: Slot,
-) -> bool
-    requires indexed { Indexed image.now offs.now starts.now (length (set_in image.now)) }
-    requires passed_ahead { PassedAhead Owner (set_in image.now) }
-    requires counted { Counted image.now counts.now }
-    requires slot_in_bounds { slot.0 < length (get_or (set_in image.now) part.0 []) }
-    ensures { result ≡ judged Owner (set_in image.now) part.0 slot.0 }
+pub fn owner(tables: &Tables, counts: &[u32], part: Part, slot: Slot) -> bool
+    requires passed_ahead { PassedAhead Owner (set_of tables.now) }
+    requires counted { Counted tables.now.image.now counts.now }
+    requires slot_in_bounds { slot.0 < length (get_or (set_of tables.now) part.0 []) }
+    ensures { result ≡ judged Owner (set_of tables.now) part.0 slot.0 }
 {
-    let at = rows::offset_of(offs, starts, part, slot);
-    let mask = field::long_at(image, at + 8);
-    field::byte_at(image, at + 5) == owner_of(mask, counts)
+    let at = tables.offset_of(part, slot);
+    let mask = field::long_at(tables.image, at + 8);
+    field::byte_at(tables.image, at + 5) == owner_of(mask, counts)
 }

@@ -10,13 +10,11 @@ pub fn value_of(kind: u32, bits: u64) -> Value
     requires { ValueStands kind bits }
     ensures { result ≡ value_of kind bits }
 {
-    if kind == 0 {
-        return Value::Nothing;
+    match kind {
+        0 => Value::Nothing,
+        1 => Value::Whole(bits),
+        _ => Value::Real(field::real(bits)),
     }
-    if kind == 1 {
-        return Value::Whole(bits);
-    }
-    Value::Real(field::real(bits))
 }
 
 // Are two values equal in kind and bits?
@@ -39,7 +37,7 @@ pub fn same_value(a: Value, b: Value) -> bool
         Value::Real(x) => match b {
             Value::Nothing => false,
             Value::Whole(_) => false,
-            Value::Real(y) => f64::to_bits(x) == f64::to_bits(y),
+            Value::Real(y) => x.to_bits() == y.to_bits(),
         },
     }
 }

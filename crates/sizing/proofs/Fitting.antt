@@ -1,14 +1,14 @@
--- Sizing as a whole: each way out, and what its caller reads off the answer. Assumes nothing.
+-- Sizing as a whole: the ways out behind the list. Assumes nothing.
 use Prim.Native.Nat.{ℕ, ◌+◌, ◌*◌, ◌≤◌, ◌<◌}
 use native.Mathlib.Omega.{arith}
-use mathlib.Core.Path.{◌≡◌, sym, ◌∙◌, subst}
+use mathlib.Core.Path.{◌≡◌, sym, ◌∙◌}
 use mathlib.Core.List.{List}
 use lib.ListN.{length}
 use lib.Dec.{T}
 use lib.Pow.{are_bytes}
 use Rattle.slots.specs.Slots.{tab, rows_to, bytes_to}
 use Rattle.paper.specs.declared.Refusal.{Refusal}
-use Rattle.paper.specs.Outcome.{nowhere, refusal, place_of, refused}
+use Rattle.paper.specs.Outcome.{nowhere, refusal}
 use Rattle.paper.proofs.Outcomes.{as_refused}
 use Rattle.paper.specs.Image.{row_total}
 use Rattle.paper.specs.Sound.{max_image}
@@ -16,20 +16,12 @@ use Rattle.paper.specs.Placement.{WellPlaced}
 use Rattle.index.specs.Index.{set_in}
 use Rattle.demands.specs.Passed.{ListPassed}
 use Rattle.plan.specs.Plan.{mesh, placing, new_image, Sourced}
-use Rattle.sizing.specs.declared.Sizing.{Sizing}
-use Rattle.sizing.specs.declared.Sizing.TheVariants.{Refused, Fits}
-use Rattle.sizing.specs.Sizing.{size_of, Sized, Says, SizesUp}
+use Rattle.std.proofs.Common.{Ok, Err}
+use Rattle.sizing.specs.Sizing.{SizesUp}
 use Rattle.sizing.specs.Steps.{Relocated}
 use Rattle.sizing.proofs.Placing.{well}
 use Rattle.sizing.proofs.Amounts.{rows_are, bytes_are, numbers_are}
 use Rattle.sizing.proofs.Answers as answers
-
--- ---- the ways out
-
-pub size_refused : (b l offs starts ord ent masks counts : List ℕ) (work : ℕ) (r : Refusal) → size_of b l work ≡ refused r.number (place_of r)
-    → SizesUp b l offs starts ord ent masks counts work (Refused r)
-unfolding Says
-size_refused b l offs starts ord ent masks counts work r e = record { says = e }
 
 module _ {b l offs starts ord ent masks counts : List ℕ} {n m moved : ℕ} (source : Sourced b offs starts ord n m) (is_bytes : T (are_bytes b)) (passed : ListPassed (set_in b) l)
     (work : ℕ) (words : row_total (set_in b) ≤ work) (done : Relocated b l starts ent masks counts moved)
@@ -40,41 +32,21 @@ module _ {b l offs starts ord ent masks counts : List ℕ} {n m moved : ℕ} (so
   long : bytes ≡ length (new_image b l)
   long = sum ∙ bytes_are source placed done.masked
 
-  pub long_refused : max_image < bytes → (r : Refusal) → r ≡ refusal 18 nowhere → SizesUp b l offs starts ord ent masks counts work (Refused r)
-  unfolding Says
-  long_refused h r e = record {
-    says = answers.too_long b l work source.sound passed words (omega (arith, long)) ∙ sym (as_refused e);
-  }
+  pub long_refused : max_image < bytes → (r : Refusal) → r ≡ refusal 18 nowhere → SizesUp b l offs starts ord ent masks counts work (Err r)
+  long_refused h r e = answers.too_long b l work source.sound passed words (omega (arith, long)) ∙ sym (as_refused e)
 
-  pub all_fits : bytes ≤ max_image → (rows : ℕ) → rows ≡ rows_to (tab masks) m → SizesUp b l offs starts ord ent masks counts work (Fits n m bytes rows moved)
-  unfolding Says
+  pub all_fits : bytes ≤ max_image → (rows : ℕ) → rows ≡ rows_to (tab masks) m → SizesUp b l offs starts ord ent masks counts work (Ok (record { parts = n; entities = m; bytes = bytes; rows = rows; moved = moved }))
   all_fits h rows er =
       let small : length (new_image b l) ≤ max_image = omega (arith, long) in
       record {
-        says = record {
-          passes = answers.passes b l work source.sound passed words small;
-          numbers = numbers_are b l bytes rows moved long (er ∙ rows_are source placed done.masked) done.count;
-          prepared = record {
-            source = source;
-            numbered = done.numbered;
-            masked = done.masked;
-            tallied = done.tallied;
-            well = placed;
-            small = small;
-          };
+        passes = answers.passes b l work source.sound passed words small;
+        numbers = numbers_are b l bytes rows moved long (er ∙ rows_are source placed done.masked) done.count;
+        prepared = record {
+          source = source;
+          numbered = done.numbered;
+          masked = done.masked;
+          tallied = done.tallied;
+          well = placed;
+          small = small;
         };
       }
-
--- ---- what an answer says
-
-module _ {b l offs starts ord ent masks counts : List ℕ} {work : ℕ} {x : Sizing} (up : SizesUp b l offs starts ord ent masks counts work x) where
-  pub is_refused : (r : Refusal) → x ≡ Refused r → size_of b l work ≡ refused r.number (place_of r)
-  unfolding Says
-  is_refused r e = rw e at up.says
-
-  pub is_sized : (n m bytes rows moved : ℕ) → x ≡ Fits n m bytes rows moved → Sized b l offs starts ord ent masks counts work n m bytes rows moved
-  unfolding Says
-  is_sized n m bytes rows moved e = rw e at up.says
-
-  pub with_words : {words : ℕ} → work ≡ words → SizesUp b l offs starts ord ent masks counts words x
-  with_words e = subst (λ (k : ℕ). SizesUp b l offs starts ord ent masks counts k x) e up

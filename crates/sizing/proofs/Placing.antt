@@ -19,12 +19,12 @@ use Rattle.index.specs.Index.{set_in, max_rows}
 use Rattle.paper.specs.declared.EntryRule.TheVariants.{Destination}
 use Rattle.paper.specs.Move.{entry_judged}
 use Rattle.demands.specs.Passed.{ListPassed}
-use Rattle.marks.specs.Closures.{Blank, Placed, AllMarked}
+use Rattle.marks.specs.Closures.{Placed, AllMarked}
 use Rattle.plan.specs.Plan.{mesh, placing, Sourced, Destined}
 use Rattle.places.specs.Sending.{Tallyable}
 use Rattle.places.proofs.ObjectRows.{open_in}
 use Rattle.homes.specs.Joining.{Joinable}
-use Rattle.sizing.specs.Steps.{Empty, Surveyed, Movable}
+use Rattle.sizing.specs.Steps.{Surveyed, Movable}
 use Rattle.sizing.proofs.Sources.{sound_facts, readable}
 
 dests_pass : (b l : List ℕ) → ListPassed (set_in b) l → (i : ℕ) → i < all_entries l → T (ltb (entry_part l i) (length (set_in b)))
@@ -45,9 +45,8 @@ well {b} l source bytes passed =
 
 module _ {b l offs starts keys covered ord : List ℕ} {n m : ℕ} (s : Surveyed b offs starts keys covered ord n m) (bytes : T (are_bytes b)) (passed : ListPassed (set_in b) l)
     {dest : List ℕ} (destined : Destined b l starts covered dest) where
-  pub tallyable : {counts : List ℕ} → 64 ≤ length counts → ((q : ℕ) → get_or counts q 0 ≡ 0) → Tallyable b l offs starts covered ord dest counts n m
+  pub tallyable : {counts : List ℕ} → 64 ≤ length counts → ((q : ℕ) → get_or counts q 0 ≡ 0) → Tallyable b l starts covered dest counts n
   tallyable room none = record {
-    source = s.source;
     covers = s.covers;
     destined = destined;
     well = well l s.source bytes passed;
@@ -81,9 +80,8 @@ module _ {b l offs starts keys covered ord : List ℕ} {n m : ℕ} (s : Surveyed
       (omega (arith, s.covers.room)) (omega (arith, destined.room)) words
 
   pub joinable : {work work' masks ent : List ℕ} → get_or starts n 0 ≤ length work → AllMarked b starts covered dest work work' → max_rows + 1 ≤ length masks → max_rows + 1 ≤ length ent
-      → Joinable b l offs starts covered ord dest work' masks ent n m
+      → Joinable b l starts covered dest work' masks ent n
   joinable words marked masks_room ent_room = record {
-    source = s.source;
     covers = s.covers;
     destined = destined;
     well = well l s.source bytes passed;
@@ -92,9 +90,6 @@ module _ {b l offs starts keys covered ord : List ℕ} {n m : ℕ} (s : Surveyed
     masks_room = masks_room;
     ent_room = ent_room;
   }
-
-pub blank : (b starts : List ℕ) {work ent counts : List ℕ} → Empty work ent counts → Blank b starts work
-blank b starts empty p t h = empty.blank (get_or starts p 0 + t)
 
 -- a word for each row
 pub words_there : {b l offs starts ord work ent counts : List ℕ} {n m : ℕ} → Sourced b offs starts ord n m → Movable b l work ent counts → get_or starts n 0 ≤ length work

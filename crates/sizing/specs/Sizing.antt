@@ -1,13 +1,13 @@
 -- What sizing answers: refusals 1 to 18, or all numbers of the answer and the tables that the image is written from. Assumes nothing.
-use Rattle.std.specs.Prelude.{ℕ, ◌≡◌, List}
+use Rattle.std.specs.Prelude.{ℕ, ◌≡◌, List, Result, Ok, Err}
 use Rattle.paper.specs.Outcome.{Outcome, refused, accepted, ◌>>=◌}
 use Rattle.paper.specs.Sound.{sound_of}
 use Rattle.paper.specs.Move.{Migrated, migrated, size_set, sizes_of}
 use Rattle.paper.specs.Outcome.{place_of}
 use Rattle.index.specs.Index.{set_in}
 use Rattle.plan.specs.Plan.{Prepared}
-use Rattle.sizing.specs.declared.Sizing.{Sizing}
-use Rattle.sizing.specs.declared.Sizing.TheVariants.{Refused, Fits}
+use Rattle.paper.specs.declared.Refusal.{Refusal}
+use Rattle.sizing.specs.declared.Fits.{Fits}
 
 -- the paper's sizing: all of a migration but its output
 abbrev pub size_of : List ℕ → List ℕ → ℕ → Outcome Migrated
@@ -19,10 +19,7 @@ pub record Sized (b l offs starts ord ent masks counts : List ℕ) (work n m byt
   pub numbers : sizes_of (migrated (set_in b) l) ≡ record { length = bytes; rows = rows; moved = moved }
   pub prepared : Prepared b l offs starts ord ent masks counts n m
 
-unfoldable pub Says : List ℕ → List ℕ → List ℕ → List ℕ → List ℕ → List ℕ → List ℕ → List ℕ → ℕ → Sizing → Type 0
-Says b l offs starts ord ent masks counts work (Refused r) = size_of b l work ≡ refused r.number (place_of r)
-Says b l offs starts ord ent masks counts work (Fits n m bytes rows moved) = Sized b l offs starts ord ent masks counts work n m bytes rows moved
-
 -- sizing of any image and list, with a working buffer of `work` words
-pub record SizesUp (b l offs starts ord ent masks counts : List ℕ) (work : ℕ) (x : Sizing) : Type 0 where
-  pub says : Says b l offs starts ord ent masks counts work x
+abbrev pub SizesUp : List ℕ → List ℕ → List ℕ → List ℕ → List ℕ → List ℕ → List ℕ → List ℕ → ℕ → Result Fits Refusal → Type 0
+SizesUp b l offs starts ord ent masks counts work (Err r) = size_of b l work ≡ refused r.number (place_of r)
+SizesUp b l offs starts ord ent masks counts work (Ok f) = Sized b l offs starts ord ent masks counts work f.parts f.entities f.bytes f.rows f.moved

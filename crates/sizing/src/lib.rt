@@ -3,164 +3,115 @@
 
 ghost use Rattle.std.specs.Prelude.{◌≡◌, length};
 ghost use Rattle.paper.specs.Image.{row_total};
-ghost use Rattle.index.specs.Index.{set_in};
+ghost use Rattle.rows.specs.Tables.{set_of};
 ghost use Rattle.moves.specs.Catalog.{Catalog};
 ghost use Rattle.sizing.specs.Sizing.{SizesUp};
-ghost use Rattle.sizing.specs.Steps.{SizingRooms, Empty, Surveyed, Judges, Placeable, Sent, Movable, Relocated};
+ghost use Rattle.sizing.specs.Steps.{SizingRooms, Empty, SurveyedBy, Judges, Movable, Relocated};
 
-use moves::ListStage;
-use paper::Refusal;
-use sound::Examined;
+use moves::Order;
+use paper::{Refusal, Unplaced};
+use plan::Source;
+use rows::Tables;
 
-// A refusal, or the part count, the entities, and the answer's numbers.
+// The part count and the entities of the old image, and the answer's numbers.
 #[derive(Clone, Copy)]
-pub enum Sizing {
-    Refused(Refusal),
-    Fits {
-        parts: u32,
-        entities: usize,
-        bytes: usize,
-        rows: usize,
-        moved: u32,
-    },
-}
-
-// A refusal, or the list passes.
-#[derive(Clone, Copy)]
-enum Stage {
-    Stop(Refusal),
-    Go,
+pub struct Fits {
+    pub parts: u32,
+    pub entities: usize,
+    pub bytes: usize,
+    pub rows: usize,
+    pub moved: u32,
 }
 
 // The refusals 13 to 17: the entries of the list, then the words of the working buffer, of which each row wants one.
 fn judge_list(
-    image: &[u8],
+    source: &Source,
     list: &[u8],
     keys: &[u64],
     covered: &[u8],
-    ord: &[u32],
-    n: u32,
     rows: usize,
-    entities: usize,
     words: usize,
-) -> Stage
-    requires image_len { length (set_in image.now) ≡ n }
-    requires catalog { Catalog (set_in image.now) keys.now ord.now covered.now entities }
-    requires rows_value { rows ≡ row_total (set_in image.now) }
-    ensures { Judges (set_in image.now) list.now words result }
+) -> Result<(), Refusal>
+    requires catalog { Catalog (set_of source.now.tables) keys.now source.now.ord.now covered.now source.now.entities }
+    requires rows_value { rows ≡ row_total (set_of source.now.tables) }
+    ensures { Judges (set_of source.now.tables) list.now words result }
 {
-    let stage = moves::list_rules(image, list, keys, ord, covered, n, entities);
-    match stage {
-        ListStage::Stop(r) => return Stage::Stop(r),
-        ListStage::Go => {}
-    }
+    let order = Order {
+        keys,
+        ord: source.ord,
+        count: source.entities,
+    };
+    moves::list_rules(
+        source.tables.image,
+        list,
+        &order,
+        covered,
+        source.tables.parts,
+    )?;
     if words < rows {
-        return Stage::Stop(Refusal::nowhere(17));
+        return Err(Unplaced::WorkTooShort.into());
     }
-    Stage::Go
+    Ok(())
 }
 
-// Where each object goes, and how many each part then has; the answer is how many change their part.
-fn place(
-    image: &[u8],
-    list: &[u8],
-    offs: &[u32],
-    starts: &[u32],
-    keys: &[u64],
-    covered: &[u8],
-    ord: &[u32],
-    n: u32,
-    entities: usize,
-    dest: &mut [u8],
-    counts: &mut [u32],
-) -> u32
-    requires surveyed { Surveyed image.now offs.now starts.now keys.now covered.now ord.now n entities }
-    requires placeable { Placeable image.now list.now dest.old counts.old }
-    ensures { Sent image.now list.now starts.now covered.now dest.new counts.new result }
-{
-    places::destinations(
-        image, list, offs, starts, keys, covered, ord, n, entities, dest,
-    );
-    places::tally(
-        image, list, offs, starts, covered, ord, dest, n, entities, counts,
-    )
-}
-
-// Places the objects anew and works out the new residence sets. These take the place of the names, which nothing reads any more.
+// Places the objects anew and works out the new residence sets; the answer is how many objects change their part. The sets take the place of the
+// names, which nothing reads any more.
 fn relocate(
-    image: &[u8],
+    source: &Source,
     list: &[u8],
-    offs: &[u32],
-    starts: &[u32],
     keys: &mut [u64],
     covered: &[u8],
-    ord: &[u32],
-    n: u32,
-    entities: usize,
     work: &mut [u64],
     ent: &mut [u32],
     counts: &mut [u32],
 ) -> u32
-    requires surveyed { Surveyed image.now offs.now starts.now keys.old covered.now ord.now n entities }
-    requires movable { Movable image.now list.now work.old ent.old counts.old }
-    ensures { Relocated image.now list.now starts.now ent.new keys.new counts.new result }
+    requires surveyed { SurveyedBy source.now keys.old covered.now }
+    requires movable { Movable source.now.tables.image.now list.now work.old ent.old counts.old }
+    ensures { Relocated source.now.tables.image.now list.now source.now.tables.starts.now ent.new keys.new counts.new result }
 {
     let mut dest = [0u8; paper::ROW_ENTRIES];
-    let moved = place(
-        image, list, offs, starts, keys, covered, ord, n, entities, &mut dest, counts,
-    );
-    marks::mark_all(image, offs, starts, n, covered, &dest, work);
-    homes::join(
-        image, list, offs, starts, covered, ord, &dest, work, n, entities, keys, ent,
-    );
+    places::destinations(source, list, keys, covered, &mut dest);
+    let moved = places::tally(source, list, covered, &dest, counts);
+    marks::mark_all(&source.tables, covered, &dest, work);
+    homes::join(source, list, covered, &dest, work, keys, ent);
     moved
 }
 
-// Sizing of a sound image: the refusals 13 to 18, or all numbers.
+// Sizing of a sound image: the refusals 13 to 18, or all numbers. What is read is `source`; the other tables are each filled or overwritten.
 fn size_sound(
-    image: &[u8],
+    source: &Source,
     list: &[u8],
-    offs: &[u32],
-    starts: &[u32],
     keys: &mut [u64],
     covered: &[u8],
-    ord: &[u32],
-    n: u32,
     rows: usize,
-    entities: usize,
     work: &mut [u64],
     ent: &mut [u32],
     counts: &mut [u32],
-) -> Sizing
-    requires surveyed { Surveyed image.now offs.now starts.now keys.old covered.now ord.now n entities }
-    requires rows_value { rows ≡ row_total (set_in image.now) }
+) -> Result<Fits, Refusal>
+    requires surveyed { SurveyedBy source.now keys.old covered.now }
+    requires rows_value { rows ≡ row_total (set_of source.now.tables) }
     requires empty { Empty work.old ent.old counts.old }
-    ensures { SizesUp image.now list.now offs.now starts.now ord.now ent.new keys.new counts.new (length work.old) result }
+    ensures { SizesUp source.now.tables.image.now list.now source.now.tables.offs.now source.now.tables.starts.now source.now.ord.now ent.new keys.new counts.new (length work.old) result }
 {
-    let words = work.len();
-    let stage = judge_list(image, list, keys, covered, ord, n, rows, entities, words);
-    match stage {
-        Stage::Stop(r) => return Sizing::Refused(r),
-        Stage::Go => {}
-    }
-    let moved = relocate(
-        image, list, offs, starts, keys, covered, ord, n, entities, work, ent, counts,
-    );
-    let sizes = slots::sizes(keys, entities, n);
+    judge_list(source, list, keys, covered, rows, work.len())?;
+    let moved = relocate(source, list, keys, covered, work, ent, counts);
+    let parts = source.tables.parts;
+    let entities = source.entities;
+    let sizes = slots::sizes(keys, entities, parts);
     let bytes = sizes.bytes;
     if bytes > paper::IMAGE_BYTES {
-        return Sizing::Refused(Refusal::nowhere(18));
+        return Err(Unplaced::ResultTooLong.into());
     }
-    Sizing::Fits {
-        parts: n,
-        entities: entities,
-        bytes: bytes,
+    Ok(Fits {
+        parts,
+        entities,
+        bytes,
         rows: sizes.rows,
-        moved: moved,
-    }
+        moved,
+    })
 }
 
-// Sizing: the refusals 1 to 18, or all numbers, with the tables that the new image is written from.
+// Sizing: the refusals 1 to 18, or all numbers, with the tables that the new image is written from, each of which is filled here.
 pub fn size(
     image: &[u8],
     list: &[u8],
@@ -171,22 +122,32 @@ pub fn size(
     work: &mut [u64],
     ent: &mut [u32],
     counts: &mut [u32],
-) -> Sizing
+) -> Result<Fits, Refusal>
     requires sizing_rooms { SizingRooms offs.old starts.old keys.old ord.old }
     requires empty { Empty work.old ent.old counts.old }
     ensures { SizesUp image.now list.now offs.new starts.new ord.new ent.new keys.new counts.new (length work.old) result }
 {
     let mut covered = [0u8; paper::ROW_ENTRIES];
-    let examined = sound::examine(image, offs, starts, keys, &mut covered, ord);
-    match examined {
-        Examined::Refused(r) => Sizing::Refused(r),
-        Examined::Sound {
-            parts,
-            rows,
-            entities,
-        } => size_sound(
-            image, list, offs, starts, keys, &covered, ord, parts, rows, entities, work, ent,
-            counts,
-        ),
-    }
+    let examined = sound::examine(image, offs, starts, keys, &mut covered, ord)?;
+    let tables = Tables {
+        image,
+        offs,
+        starts,
+        parts: examined.parts,
+    };
+    let source = Source {
+        tables,
+        ord,
+        entities: examined.entities,
+    };
+    size_sound(
+        &source,
+        list,
+        keys,
+        &covered,
+        examined.rows,
+        work,
+        ent,
+        counts,
+    )
 }

@@ -6,18 +6,17 @@ use native.Mathlib.Omega.{arith}
 use mathlib.Core.Path.{◌≡◌, sym, ap, ◌∙◌, subst}
 use mathlib.Core.Logic.{⊎_elim}
 use mathlib.Core.Option.{some}
+use Rattle.std.specs.Prelude.{Ok, Err}
 use Rattle.paper.specs.declared.Rule.{Rule}
 use Rattle.paper.specs.declared.Rule.TheVariants.{Fields, Order, Boundary, Copies, Residence, Owner}
 use Rattle.paper.specs.declared.Refusal.{Refusal}
-use Rattle.paper.specs.Outcome.{Place, refusal, place_of, refused}
+use Rattle.paper.specs.Outcome.{Place, refusal, refused}
 use Rattle.paper.specs.Image.{Set}
-use Rattle.paper.specs.Sound.{judged, number_of, rank_of, first_fault_of, rules_of}
+use Rattle.paper.specs.Sound.{judged, number_of, rank_of, first_fault_of}
 use Rattle.paper.proofs.Outcomes.{as_refused}
 use Rattle.paper.proofs.Ranks.{one_rank}
 use Rattle.demands.specs.Passed.{Passed, PassedAhead, PassedThrough, AllPassed}
 use Rattle.demands.proofs.Rows.Faults.{rules_stop}
-use Rattle.sound.specs.declared.Stage.{Stage}
-use Rattle.sound.specs.declared.Stage.TheVariants.{Stop, Go}
 use Rattle.sound.specs.Stages.{UpTo}
 
 module _ (S : Set) where
@@ -39,29 +38,11 @@ module _ (S : Set) where
   -- ---- one rule judged
 
   module _ (rule : Rule) (ahead : PassedAhead rule S) where
-    pub goes : Passed rule S → UpTo rule S Go
-    unfolding UpTo
+    pub goes : Passed rule S → UpTo rule S (Ok tt)
     goes pass told h =
         ⊎_elim (λ (e : rank_of told ≡ rank_of rule). subst (λ (r : Rule). Passed r S) (sym (one_rank told rule e)) pass) (λ (l : rank_of told < rank_of rule). ahead told l)
         (eq-or-lt_of_le h)
 
-    pub stops : (r : Refusal) (place : Place) {k : ℕ} → k ≡ number_of rule → r ≡ refusal k place → first_fault_of (judged rule S) 0 S ≡ some place → UpTo rule S (Stop r)
-    unfolding UpTo
+    pub stops : (r : Refusal) (place : Place) {k : ℕ} → k ≡ number_of rule → r ≡ refusal k place → first_fault_of (judged rule S) 0 S ≡ some place → UpTo rule S (Err r)
     stops r place number e fault =
         rules_stop S rule place ahead fault ∙ ap (λ (k : ℕ). refused k place) (sym number) ∙ sym (as_refused e)
-
-  -- ---- what a stage says
-
-  module _ (rule : Rule) {stage : Stage} (up : UpTo rule S stage) where
-    pub stopped : (r : Refusal) → stage ≡ Stop r → rules_of S ≡ refused r.number (place_of r)
-    unfolding UpTo
-    stopped r e = rw e at up
-
-    -- and so for any rules behind them
-    pub halted : (last : Rule) (r : Refusal) → stage ≡ Stop r → UpTo last S (Stop r)
-    unfolding UpTo
-    halted last r e = stopped r e
-
-    pub gone : stage ≡ Go → PassedThrough rule S
-    unfolding UpTo
-    gone e = rw e at up

@@ -1,45 +1,36 @@
--- The tests of a row, and a fault as the paper's place. Assumes nothing.
-use Rattle.std.specs.Prelude.{ℕ, Bool}
-use Rattle.std.proofs.Math.Option.{Option, none, some}
+-- A test of rows as a closure gives it: `may`, when it may be asked, and `says`, what it may answer; and the first row that fails it, as the
+-- paper's place. Assumes nothing.
+use Rattle.std.specs.Prelude.{ℕ, ◌<◌, ◌≡◌, Bool, true, [], length, get_or, Option, None, Some}
+use Rattle.std.proofs.Math.Option as math
+use Rattle.paper.specs.declared.Part.{Part}
+use Rattle.paper.specs.declared.Slot.{Slot}
 use Rattle.paper.specs.declared.Rule.{Rule}
-use Rattle.paper.specs.declared.Rule.TheVariants as rule
 use Rattle.paper.specs.Outcome.{Place, at_row}
 use Rattle.paper.specs.Image.{Set}
-use Rattle.paper.specs.Sound.{judged}
-use Rattle.copies.specs.Copies.{twins_agree}
-use Rattle.sound.specs.declared.Test.{Test}
-use Rattle.sound.specs.declared.Test.TheVariants.{Fields, Order, Boundary, Twins, Copies, Residence, Owner}
-use Rattle.sound.specs.declared.Fault.{Fault}
-use Rattle.sound.specs.declared.Fault.TheVariants.{None, At}
+use Rattle.paper.specs.Sound.{judged, first_fault_of}
+use Rattle.demands.specs.Passed.{PassedAhead}
+use Rattle.sound.specs.Ready.{Due}
 
--- row s of part p passes the test
-abbrev pub tested : Test → Set → ℕ → ℕ → Bool
-tested Fields S p s = judged rule.Fields S p s
-tested Order S p s = judged rule.Order S p s
-tested Boundary S p s = judged rule.Boundary S p s
-tested Twins S p s = twins_agree S p s
-tested Copies S p s = judged rule.Copies S p s
-tested Residence S p s = judged rule.Residence S p s
-tested Owner S p s = judged rule.Owner S p s
+abbrev pub fault_place : Option (Part × Slot) → math.Option Place
+fault_place None = math.none
+fault_place (Some f) = math.some (at_row f.0.0 f.1.0)
 
--- the rule that a test is of, and the test for a rule
-abbrev pub rule_for : Test → Rule
-rule_for Fields = rule.Fields
-rule_for Order = rule.Order
-rule_for Boundary = rule.Boundary
-rule_for Twins = rule.Copies
-rule_for Copies = rule.Copies
-rule_for Residence = rule.Residence
-rule_for Owner = rule.Owner
+module _ (may : Part → Slot → Type 0) (says : Part → Slot → Bool → Type 0) where
+  -- it may be asked of each row where it says of those of the part before it that they pass
+  pub record Askable (S : Set) : Type 0 where
+    pub asked : (part : Part) (slot : Slot) → slot.0 < length (get_or S part.0 []) → ((t : Slot) → t.0 < slot.0 → says part t true) → may part slot
 
-abbrev pub test_of : Rule → Test
-test_of rule.Fields = Fields
-test_of rule.Order = Order
-test_of rule.Boundary = Boundary
-test_of rule.Copies = Copies
-test_of rule.Residence = Residence
-test_of rule.Owner = Owner
+  -- it may be asked of each row where the rules before this one pass and so do the rows of the part before it, and says what the rule says
+  pub record Judges (rule : Rule) (S : Set) : Type 0 where
+    pub passed : PassedAhead rule S
+    pub asked : (part : Part) (slot : Slot) → Due (judged rule S) S part.0 slot.0 → may part slot
+    pub told : (part : Part) (slot : Slot) (r : Bool) → slot.0 < length (get_or S part.0 []) → says part slot r → r ≡ judged rule S part.0 slot.0
 
-abbrev pub fault_place : Fault → Option Place
-fault_place None = none
-fault_place (At part slot) = some (at_row part.0 slot.0)
+module _ (says : Part → Slot → Bool → Type 0) (S : Set) where
+  -- what it says of each row is what ok says
+  abbrev pub Tells : (ℕ → ℕ → Bool) → Type 0
+  Tells ok = (part : Part) (slot : Slot) (r : Bool) → slot.0 < length (get_or S part.0 []) → says part slot r → r ≡ ok part.0 slot.0
+
+  -- and so is the first row of which it says no
+  pub record FirstFault (fault : Option (Part × Slot)) : Type 0 where
+    pub place : (ok : ℕ → ℕ → Bool) → Tells ok → fault_place fault ≡ first_fault_of ok 0 S

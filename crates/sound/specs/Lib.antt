@@ -1,3 +1,4 @@
 pub mod Faults
 pub mod Ready
 pub mod Stages
+pub mod Tests

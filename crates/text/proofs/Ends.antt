@@ -5,6 +5,7 @@ use native.Mathlib.Omega.{arith}
 use mathlib.Core.Path.{◌≡◌, refl, sym, ap, ◌∙◌}
 use mathlib.Core.Bool.{Bool, cond}
 use mathlib.Core.List.{List, [], ◌∷◌, ◌++◌, append-nil}
+use Rattle.std.specs.Prelude.{Option, None, Some}
 use lib.ListN.{length, take, drop, length-append, take-append-drop, drop_of_length-le}
 use lib.Seq.{sets, set_out, length-take-le}
 use lib.Dec.{T}
@@ -13,8 +14,6 @@ use borrow.Author.Tests.{lt-ltb, le-ltb}
 use Rattle.laws.proofs.Stores.{sets_append, sets_front}
 use Rattle.paper.specs.Sound.{sound_of}
 use Rattle.paper.specs.Listing.{answer_text, too_long, max_listing, listing_of}
-use Rattle.text.specs.declared.Written.{Written}
-use Rattle.text.specs.declared.Written.TheVariants.{Bytes, Short}
 use Rattle.decimal.specs.Writing.{Wrote}
 use Rattle.text.specs.Listed.{Whole, Listed}
 use Rattle.decimal.proofs.Runs.{wrote_same}
@@ -48,14 +47,14 @@ front_cut l xs h =
 -- ---- what the answer says
 
 module _ (b : List ℕ) {out out' : List ℕ} {to : ℕ} (wrote : Wrote out 0 (listing_of b) out' to) where
-  pub ends_short : length out' < to → Listed b out out' Short
+  pub ends_short : length out' < to → Listed b out out' None
   unfolding Listed
   ends_short h = record {
     short = omega (arith, h, wrote.next, wrote_same wrote);
     bytes = wrote.bytes ∙ front_cut out (listing_of b) (omega (arith, h, wrote.next, wrote_same wrote));
   }
 
-  pub ends_whole : to ≤ length out' → Listed b out out' (Bytes to)
+  pub ends_whole : to ≤ length out' → Listed b out out' (Some to)
   unfolding Listed
   ends_whole h =
       let e : length (listing_of b) ≡ to = omega (arith, wrote.next) in
@@ -66,22 +65,22 @@ module _ (b : List ℕ) {out out' : List ℕ} {to : ℕ} (wrote : Wrote out 0 (l
       }
 
 -- no second answer, and no second content of the buffer, meets the contract
-pub listed_unique : (b out out₁ out₂ : List ℕ) (r₁ r₂ : Written) → Listed b out out₁ r₁ → Listed b out out₂ r₂ → (r₁ ≡ r₂) × (out₁ ≡ out₂)
+pub listed_unique : (b out out₁ out₂ : List ℕ) (r₁ r₂ : Option ℕ) → Listed b out out₁ r₁ → Listed b out out₂ r₂ → (r₁ ≡ r₂) × (out₁ ≡ out₂)
 unfolding Listed
-listed_unique b out out₁ out₂ (Bytes k₁) (Bytes k₂) w₁ w₂ =
+listed_unique b out out₁ out₂ (Some k₁) (Some k₂) w₁ w₂ =
     let e : k₁ ≡ k₂ = w₁.count ∙ sym w₂.count in
-    (ap Bytes e, w₁.bytes ∙ ap (λ (k : ℕ). listing_of b ++ drop k out) e ∙ sym w₂.bytes)
-listed_unique b out out₁ out₂ (Bytes k₁) Short w₁ w₂ = absurd (omega (arith, w₁.count, w₁.room, w₂.short))
-listed_unique b out out₁ out₂ Short (Bytes k₂) w₁ w₂ = absurd (omega (arith, w₂.count, w₂.room, w₁.short))
-listed_unique b out out₁ out₂ Short Short w₁ w₂ = (refl, w₁.bytes ∙ sym w₂.bytes)
+    (ap Some e, w₁.bytes ∙ ap (λ (k : ℕ). listing_of b ++ drop k out) e ∙ sym w₂.bytes)
+listed_unique b out out₁ out₂ (Some k₁) None w₁ w₂ = absurd (omega (arith, w₁.count, w₁.room, w₂.short))
+listed_unique b out out₁ out₂ None (Some k₂) w₁ w₂ = absurd (omega (arith, w₂.count, w₂.room, w₁.short))
+listed_unique b out out₁ out₂ None None w₁ w₂ = (refl, w₁.bytes ∙ sym w₂.bytes)
 
 -- 262,144 bytes are enough for any input
-pub never_short : (b out out' : List ℕ) → T (are_bytes b) → 262144 ≤ length out → Listed b out out' Short → ⊥
+pub never_short : (b out out' : List ℕ) → T (are_bytes b) → 262144 ≤ length out → Listed b out out' None → ⊥
 unfolding Listed
 never_short b out out' bytes enough cut = omega (arith, enough, cut.short, listing_length b bytes)
 
 -- what the answer counts stands in the buffer
-pub listed_room : (b out out' : List ℕ) (r : Written) (k : ℕ) → r ≡ Bytes k → Listed b out out' r → k ≤ length out'
+pub listed_room : (b out out' : List ℕ) (r : Option ℕ) (k : ℕ) → r ≡ Some k → Listed b out out' r → k ≤ length out'
 unfolding Listed
 listed_room b out out' r k e listed = go (rw e at listed)
   where

@@ -5,9 +5,7 @@ use Rattle.part_set.specs.Masks.{has, others}
 use Rattle.paper.specs.Image.{Row, row_length_of}
 use Rattle.decimal.specs.Decimal.{decimal}
 use Rattle.paper.specs.Listing.{line, copy_text, refused_word}
-use Rattle.index.specs.Index.{row_from, set_in, Indexed}
-use Rattle.paper.specs.declared.Rule.TheVariants.{Fields}
-use Rattle.demands.specs.Passed.{Passed}
+use Rattle.index.specs.Index.{row_from}
 
 -- each field behind a space
 unfoldable pub spaced : List (List ℕ) → List ℕ
@@ -30,8 +28,3 @@ pub record RowThere (b : List ℕ) (o p : ℕ) : Type 0 where
   pub room : o + row_length_of (row_from b o).mask ≤ length b
   pub part : p < 64
   pub own : has (row_from b o).mask p ≡ true
-
--- the tables are those of the image, and its rows fit their layout
-pub record Listable (b offs starts : List ℕ) : Type 0 where
-  pub index : Indexed b offs starts (length (set_in b))
-  pub fits : Passed Fields (set_in b)

@@ -1,8 +1,6 @@
 -- What the answer of the listing says of the lent buffer. Assumes nothing.
-use Rattle.std.specs.Prelude.{ℕ, ◌≤◌, ◌<◌, ◌≡◌, List, ◌++◌, length, take, drop}
+use Rattle.std.specs.Prelude.{ℕ, ◌≤◌, ◌<◌, ◌≡◌, List, ◌++◌, length, take, drop, Option, None, Some}
 use Rattle.paper.specs.Listing.{listing_of}
-use Rattle.text.specs.declared.Written.{Written}
-use Rattle.text.specs.declared.Written.TheVariants.{Bytes, Short}
 
 -- the text has k bytes, which stand in front of what was there
 pub record Whole (text out out' : List ℕ) (k : ℕ) : Type 0 where
@@ -16,6 +14,6 @@ pub record Cut (text out out' : List ℕ) : Type 0 where
   pub bytes : out' ≡ take (length out) text
 
 -- an answer for the input b, with the buffer as it came and as it is afterwards
-unfoldable pub Listed : List ℕ → List ℕ → List ℕ → Written → Type 0
-Listed b out out' (Bytes k) = Whole (listing_of b) out out' k
-Listed b out out' Short = Cut (listing_of b) out out'
+unfoldable pub Listed : List ℕ → List ℕ → List ℕ → Option ℕ → Type 0
+Listed b out out' (Some k) = Whole (listing_of b) out out' k
+Listed b out out' None = Cut (listing_of b) out out'

@@ -11,13 +11,6 @@ ghost use Rattle.text.specs.Listed.{Listed};
 
 use decimal::writing::put_text;
 
-// How many bytes the text has, which stand at the front of the buffer, or that the buffer is too short.
-#[derive(Clone, Copy)]
-pub enum Written {
-    Bytes(usize),
-    Short,
-}
-
 // The text for what was read, as far as the buffer has room for it.
 fn put_listing(image: &[u8], out: &mut [u8]) -> usize
     ensures { Wrote out.old 0 (listing_of image.now) out.new result }
@@ -28,13 +21,14 @@ fn put_listing(image: &[u8], out: &mut [u8]) -> usize
     answers::put_answer(image, out)
 }
 
-// The listing of what was read. A buffer of 262,144 bytes is long enough for any.
-pub fn write_listing(image: &[u8], out: &mut [u8]) -> Written
+// The listing of what was read: how many bytes the text has, which stand at the front of the buffer, or that the buffer is too short. One of
+// 262,144 bytes is long enough for any.
+pub fn write_listing(image: &[u8], out: &mut [u8]) -> Option<usize>
     ensures { Listed image.now out.old out.new result }
 {
     let end = put_listing(image, out);
     if out.len() < end {
-        return Written::Short;
+        return None;
     }
-    Written::Bytes(end)
+    Some(end)
 }

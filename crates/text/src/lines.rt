@@ -1,13 +1,29 @@
 // The lines of a set: a line for each row, part by part.
-ghost use Rattle.std.specs.Prelude.{[], ◌∷◌, ◌<◌, ◌≡◌, length, get_or};
+ghost use Rattle.std.specs.Prelude.{[], ◌∷◌, ◌<◌, length, get_or, map};
 ghost use Rattle.decimal.specs.Decimal.{decimal};
 ghost use Rattle.paper.specs.Listing.{copy_text, row_line, part_lines, set_line_list};
-ghost use Rattle.index.specs.Index.{row_from, set_in};
+ghost use Rattle.paper.specs.declared.Rule.TheVariants.{Fields};
+ghost use Rattle.demands.specs.Passed.{Passed};
+ghost use Rattle.index.specs.Index.{row_from};
+ghost use Rattle.rows.specs.Tables.{set_of};
 ghost use Rattle.decimal.specs.Writing.{Room, Wrote};
-ghost use Rattle.text.specs.Lines.{numbers_text, copies_text, RowThere, Listable};
+ghost use Rattle.text.specs.Lines.{spaced, copies_text, RowThere};
 
 use decimal::writing::{put_byte, put_decimal, put_field};
 use paper::{Part, Slot};
+use rows::Tables;
+
+// Each number behind a space.
+pub fn put_fields(out: &mut [u8], at: usize, numbers: &[u64]) -> usize
+    requires { Room at (spaced (map decimal numbers.now)) }
+    ensures { Wrote out.old at (spaced (map decimal numbers.now)) out.new result }
+{
+    let mut to = at;
+    for &number in numbers {
+        to = put_field(out, to, number);
+    }
+    to
+}
 
 // A space and a remote copy as part:slot.
 fn put_copy(out: &mut [u8], at: usize, part: Part, slot: Slot) -> usize
@@ -26,39 +42,14 @@ fn put_copies(image: &[u8], row: usize, own: Part, out: &mut [u8], at: usize) ->
     ensures { Wrote out.old at (copies_text (row_from image.now row) own.0) out.new result }
 {
     let mask = field::long_at(image, row + 8);
-    let mut left = part_set::without(mask, own.0);
     let mut from = row + 48;
     let mut to = at;
-    while left != 0 {
-        let other = Part(part_set::lowest(left));
-        left = part_set::rest(left);
+    for other in part_set::parts(part_set::without(mask, own.0)) {
         let slot = Slot(field::word_at(image, from));
         from += 4;
-        to = put_copy(out, to, other, slot);
+        to = put_copy(out, to, Part(other), slot);
     }
     to
-}
-
-// Six numbers, one space between them.
-fn put_numbers(
-    out: &mut [u8],
-    at: usize,
-    part: u64,
-    slot: u64,
-    dim: u64,
-    number: u64,
-    mask: u64,
-    owner: u64,
-) -> usize
-    requires { Room at (numbers_text part (slot ∷ dim ∷ number ∷ mask ∷ owner ∷ [])) }
-    ensures { Wrote out.old at (numbers_text part (slot ∷ dim ∷ number ∷ mask ∷ owner ∷ [])) out.new result }
-{
-    let second = put_decimal(out, at, part);
-    let third = put_field(out, second, slot);
-    let fourth = put_field(out, third, dim);
-    let fifth = put_field(out, fourth, number);
-    let last = put_field(out, fifth, mask);
-    put_field(out, last, owner)
 }
 
 // The line of the row at `row`, which is row `slot` of `part`.
@@ -71,64 +62,38 @@ fn put_row(image: &[u8], row: usize, part: Part, slot: Slot, out: &mut [u8], at:
     let number = field::word_at(image, row) as u64;
     let mask = field::long_at(image, row + 8);
     let owner = field::byte_at(image, row + 5) as u64;
-    let copies = put_numbers(
-        out,
-        at,
-        part.0 as u64,
-        slot.0 as u64,
-        dim,
-        number,
-        mask,
-        owner,
-    );
+    let numbers = [slot.0 as u64, dim, number, mask, owner];
+    let second = put_decimal(out, at, part.0 as u64);
+    let copies = put_fields(out, second, &numbers);
     let feed = put_copies(image, row, part, out, copies);
     put_byte(out, feed, 10)
 }
 
 // The lines of the rows of a part.
-fn put_part(
-    image: &[u8],
-    offs: &[u32],
-    starts: &[u32],
-    part: Part,
-    out: &mut [u8],
-    at: usize,
-) -> usize
-    requires listable { Listable image.now offs.now starts.now }
-    requires part_in_bounds { part.0 < length (set_in image.now) }
-    requires room { Room at (part_lines part.0 (get_or (set_in image.now) part.0 [])) }
-    ensures { Wrote out.old at (part_lines part.0 (get_or (set_in image.now) part.0 [])) out.new result }
+fn put_part(tables: &Tables, part: Part, out: &mut [u8], at: usize) -> usize
+    requires fits { Passed Fields (set_of tables.now) }
+    requires part_in_bounds { part.0 < length (set_of tables.now) }
+    requires room { Room at (part_lines part.0 (get_or (set_of tables.now) part.0 [])) }
+    ensures { Wrote out.old at (part_lines part.0 (get_or (set_of tables.now) part.0 [])) out.new result }
 {
-    let rows = rows::rows_in(starts, part);
+    let rows = tables.rows_in(part);
     let mut to = at;
-    let mut s = 0;
-    while s < rows {
-        let row = rows::offset_of(offs, starts, part, Slot(s));
-        to = put_row(image, row, part, Slot(s), out, to);
-        s += 1;
+    for s in 0..rows {
+        let row = tables.offset_of(part, Slot(s));
+        to = put_row(tables.image, row, part, Slot(s), out, to);
     }
     to
 }
 
-// The lines of the n parts.
-pub fn put_set(
-    image: &[u8],
-    offs: &[u32],
-    starts: &[u32],
-    n: u32,
-    out: &mut [u8],
-    at: usize,
-) -> usize
-    requires listable { Listable image.now offs.now starts.now }
-    requires n_value { n ≡ length (set_in image.now) }
-    requires room { Room at (set_line_list (set_in image.now)) }
-    ensures { Wrote out.old at (set_line_list (set_in image.now)) out.new result }
+// The lines of all parts.
+pub fn put_set(tables: &Tables, out: &mut [u8], at: usize) -> usize
+    requires fits { Passed Fields (set_of tables.now) }
+    requires room { Room at (set_line_list (set_of tables.now)) }
+    ensures { Wrote out.old at (set_line_list (set_of tables.now)) out.new result }
 {
     let mut to = at;
-    let mut p = 0;
-    while p < n {
-        to = put_part(image, offs, starts, Part(p), out, to);
-        p += 1;
+    for p in 0..tables.parts {
+        to = put_part(tables, Part(p), out, to);
     }
     to
 }

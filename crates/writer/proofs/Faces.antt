@@ -27,16 +27,16 @@ each_nil : (f : ℕ → ℕ) → each_word f [] ≡ []
 unfolding flat
 each_nil f = refl
 
-module _ (f : ℕ → ℕ) (xs start : List ℕ) (at : ℕ) where
-  abbrev pub WordsLeft : List ℕ → ℕ → Type 0
-  WordsLeft out i = Writing start at (each_word f xs) out (at + 4 * i) (each_word f (drop i xs))
+abbrev pub WordsLeft : (ℕ → ℕ) → List ℕ → List ℕ → ℕ → List ℕ → ℕ → Type 0
+WordsLeft f xs start at out i = Writing start at (each_word f xs) out (at + 4 * i) (each_word f (drop i xs))
 
-  pub words_none : at + 4 * length xs ≤ length start → WordsLeft start 0
+module _ (f : ℕ → ℕ) (xs : List ℕ) {start : List ℕ} {at : ℕ} where
+  pub words_none : at + 4 * length xs ≤ length start → WordsLeft f xs start at start 0
   words_none h = rw add-zero (write_none start at (each_word f xs) (each_word f xs) refl (omega (arith, each_length f xs)))
 
-  pub words_more : (out : List ℕ) (i v : ℕ) (next : List ℕ) → WordsLeft out i → i < length xs → v ≡ f (get_or xs i 0) → next ≡ sets out (at + 4 * i) (bytes_of 4 v)
-      → WordsLeft next (i + 1)
-  words_more out i v next w l e n =
+  pub words_more : {out : List ℕ} {i v : ℕ} {next : List ℕ} → WordsLeft f xs start at out i → i < length xs → v ≡ f (get_or xs i 0)
+      → next ≡ sets out (at + 4 * i) (bytes_of 4 v) → WordsLeft f xs start at next (i + 1)
+  words_more {out} {i} {v} {next} w l e n =
       let x = get_or xs i 0 in
       let b : suc i ≡ i + 1 = omega arith in
       write_more start at (each_word f xs) out (at + 4 * i) (each_word f (drop i xs)) (bytes_of 4 (f x)) (each_word f (drop (i + 1) xs)) next (at + 4 * (i + 1)) w
@@ -44,6 +44,6 @@ module _ (f : ℕ → ℕ) (xs start : List ℕ) (at : ℕ) where
       (n ∙ ap (λ (z : ℕ). sets out (at + 4 * i) (bytes_of 4 z)) e)
       (omega (arith, length-bytes 4 (f x)))
 
-  pub words_done : (out : List ℕ) (i : ℕ) → WordsLeft out i → length xs ≤ i → out ≡ sets start at (each_word f xs)
-  words_done out i w h =
+  pub words_done : {out : List ℕ} {i : ℕ} → WordsLeft f xs start at out i → length xs ≤ i → out ≡ sets start at (each_word f xs)
+  words_done {out} {i} w h =
       write_done start at (each_word f xs) out (at + 4 * i) (each_word f (drop i xs)) w (ap (each_word f) (drop_of_length-le xs h) ∙ each_nil f)

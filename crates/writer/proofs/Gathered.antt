@@ -13,7 +13,7 @@ use Rattle.field.proofs.Stores.{Storing, store_more, sets_inside, get_or_run}
 use Rattle.part_set.specs.Masks.{lowest_of}
 use Rattle.index.proofs.RowFields.{get_or_words}
 use Rattle.writer.specs.Rows.{face_at, faces_at}
-use Rattle.writer.specs.Written.{FacesNamed, FacesFound}
+use Rattle.writer.specs.Written.{FacesFound}
 
 module _ (image : List ℕ) (at : ℕ) (starts ent : List ℕ) (d : ℕ) where
   pub faces-length : length (faces_at image starts ent at d) ≡ d + 1
@@ -32,9 +32,6 @@ module _ (image : List ℕ) (at : ℕ) (starts ent : List ℕ) (d : ℕ) where
   module _ (k long low slot : ℕ) (e : long ≡ u64_at image (at + 8)) (f : low ≡ lowest_of long) (g : slot ≡ u32_at image (at + 24 + 4 * k)) where
     face_row : get_or starts low 0 + slot ≡ get_or starts (lowest_of (u64_at image (at + 8))) 0 + u32_at image (at + 24 + 4 * k)
     face_row = cc
-
-    pub face_inside : FacesNamed image at starts ent d → 0 < d → k < d + 1 → get_or starts low 0 + slot < length ent
-    face_inside n pos h = omega (arith, face_row, n.named pos k h)
 
     pub face_found : get_or ent (get_or starts low 0 + slot) 0 ≡ face_at image starts ent at (u32_at image (at + 24 + 4 * k))
     face_found = ap (λ (row : ℕ). get_or ent row 0) face_row

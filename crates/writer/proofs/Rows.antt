@@ -3,7 +3,6 @@
 use Prim.Native.Nat.{ℕ, zero, suc, ◌+◌, ◌-◌, ◌*◌, ◌≤◌, ◌<◌}
 use native.Mathlib.Omega.{arith}
 use mathlib.Core.Path.{◌≡◌, refl, sym, ap, ◌∙◌, subst}
-use mathlib.Core.Bool.{Bool, true, false}
 use mathlib.Core.List.{List, [], ◌∷◌, ◌++◌, map}
 use lib.ListN.{length, get_or, take, drop, replicate, length-append, length-replicate, length-map}
 use lib.Seq.{sets}
@@ -13,15 +12,14 @@ use Rattle.field.specs.Bytes.{u8_at, u32_at, u64_at, bytes_of}
 use Rattle.field.proofs.Numbers.{length-bytes, length-written}
 use Rattle.laws.proofs.Stores.{sets_then}
 use Rattle.field.proofs.Stores.{sets_inside, length_run}
-use Rattle.part_set.specs.Masks.{has, count, parts_in, others}
+use Rattle.part_set.specs.Masks.{count, parts_in, others}
 use Rattle.part_set.proofs.Rank.{rank_lt}
 use Rattle.part_set.proofs.MaskParts.{others-count}
-use Rattle.part_set.proofs.OnePart.{has_none}
 use Rattle.paper.specs.Image.{row_bytes}
 use Rattle.residence.specs.Owners.{poorest_of}
 use Rattle.writer.specs.Entries.{entry_from, entry_of, remote_slots, body_from}
 use Rattle.writer.specs.Rows.{source_at, faces_at, new_row, RowReady}
-use Rattle.writer.specs.Written.{front_bytes, body_at, BodyReady}
+use Rattle.writer.specs.Written.{front_bytes, body_at}
 use Rattle.writer.proofs.Faces.{each_word, each_length}
 use Rattle.writer.proofs.Gathered.{faces-length}
 
@@ -83,17 +81,9 @@ module _ (number dim owner kind mask value : ℕ) where
       let e2 = sets_then l m2 m3 0 8 (A ++ B) C e1 p3 (omega arith) in
       sets_then l m3 m4 0 16 (A ++ B ++ C) D e2 p4 (omega (arith, length-append (A ++ B) C, length-bytes 8 mask))
 
-pub front_same : (n n' d d' o k k' m v v' : ℕ) → n ≡ n' → d ≡ d' → k ≡ k' → v ≡ v' → front_bytes n d o k m v ≡ front_bytes n' d' o k' m v'
-front_same n n' d d' o k k' m v v' a b e g = cc
-
 -- ---- the whole row
 
--- a set that has a part is not empty
-pub own_pos : (m q : ℕ) → has m q ≡ true → 0 < m
-own_pos zero q e = let z : ◌≡◌ {A = Bool} true false = sym e ∙ has_none q in absurd (subst T z tt)
-own_pos (suc m) q e = omega arith
-
-module _ (image offs starts ord ent counts masks base slots : List ℕ) (q i : ℕ) (s : RowReady image offs starts ord ent counts masks base slots q i) where
+module _ {image offs starts ord ent counts masks base slots : List ℕ} {q i : ℕ} (s : RowReady image offs starts ord ent counts masks base slots q i) where
   abbrev from : ℕ
   from = source_at offs ord i
 
@@ -117,14 +107,6 @@ module _ (image offs starts ord ent counts masks base slots : List ℕ) (q i : �
 
   abbrev bytes : List ℕ
   bytes = row_bytes (new_row image offs starts ord ent counts masks base slots q i)
-
-  pub body_ready : BodyReady image from starts ent masks base slots q
-  body_ready =
-      record {
-        part = s.part;
-        named = record { low = s.low; source = s.source; old = s.old; begun = s.begun; named = s.named };
-        entered = s.entered;
-      }
 
   row_is : bytes ≡ ahead owned ++ body_bytes ++ remote
   unfolding row_bytes new_row front_bytes body_at

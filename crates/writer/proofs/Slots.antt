@@ -1,6 +1,6 @@
 -- The remote slots of a row, written part by part.
 -- Assumes nothing.
-use Prim.Native.Nat.{ℕ, ◌+◌, ◌*◌, ◌^◌, ◌≤◌, ◌<◌}
+use Prim.Native.Nat.{ℕ, ◌+◌, ◌*◌, ◌≤◌, ◌<◌}
 use native.Mathlib.Omega.{arith}
 use mathlib.Core.Path.{◌≡◌, refl, sym, ap, ◌∙◌, subst}
 use mathlib.Core.Logic.{inl, inr}
@@ -11,9 +11,9 @@ use lib.Dec.{T}
 use Rattle.laws.specs.Lists.{In, flat}
 use Rattle.field.specs.Bytes.{bytes_of}
 use Rattle.field.proofs.Numbers.{length-bytes, length-written}
-use Rattle.part_set.specs.Masks.{has, parts_in, others, lowest_of, rank_of, Rest}
+use Rattle.part_set.specs.Masks.{has, parts_in, others, rank_of, Turn}
 use Rattle.part_set.proofs.MaskParts.{others_in, others-count}
-use Rattle.part_set.proofs.Walk.{parts_none, rest_is}
+use Rattle.part_set.proofs.Walk.{parts_none}
 use Rattle.part_set.proofs.Rank.{rank_lt}
 use Rattle.writer.specs.Entries.{entry_from, remote_slots, RemoteRoom}
 use Rattle.writer.proofs.Writing.{Writing, write_none, write_more, write_done}
@@ -37,49 +37,42 @@ slots_nil slots base m = refl
 pub record SlotsLeft (slots : List ℕ) (base m q : ℕ) (start : List ℕ) (at : ℕ) (out : List ℕ) (w to : ℕ) : Type 0 where
   pub writing : Writing start at (flat (map (bytes_of 4) (remote_slots slots base m q))) out to (slot_bytes slots base m (parts_in w))
   pub among : (p : ℕ) → In p (parts_in w) → (p < 64) × T (has m p)
-  pub small : w < 2 ^ 64
 
-pub record SlotNow (slots : List ℕ) (base m : ℕ) (out : List ℕ) (w to : ℕ) : Type 0 where
-  pub there : base + rank_of m (lowest_of w) < length slots
-  pub room : to + 4 ≤ length out
+-- before the loop they are all other parts
+pub slots_none : {slots : List ℕ} {base m q : ℕ} {start : List ℕ} {at w : ℕ} → RemoteRoom slots base m q start at → parts_in w ≡ others m q
+    → SlotsLeft slots base m q start at start w at
+unfolding remote_slots
+slots_none {slots} {base} {m} {q} {start} {at} {w} k e =
+    let n = slots_length slots base m (others m q) in
+    let o = others-count m q k.part (subst T (sym k.own) tt) in
+    record {
+      writing = write_none start at (slot_bytes slots base m (others m q)) (slot_bytes slots base m (parts_in w)) (ap (slot_bytes slots base m) e) (omega (arith, n, o, k.room));
+      among = λ p i. let v = others_in m q p (subst (λ (l : List ℕ). In p l) e i) in (v.0, v.1);
+    }
 
-module _ (slots : List ℕ) (base m q : ℕ) (start : List ℕ) (at : ℕ) where
-  pub slots_none : (w : ℕ) → RemoteRoom slots base m q start at → w < 2 ^ 64 → parts_in w ≡ others m q → SlotsLeft slots base m q start at start w at
-  unfolding remote_slots
-  slots_none w k h e =
-      let n = slots_length slots base m (others m q) in
-      let o = others-count m q k.part (subst T (sym k.own) tt) in
-      record {
-        writing = write_none start at (slot_bytes slots base m (others m q)) (slot_bytes slots base m (parts_in w)) (ap (slot_bytes slots base m) e) (omega (arith, n, o, k.room));
-        among = λ p i. let v = others_in m q p (subst (λ (l : List ℕ). In p l) e i) in (v.0, v.1);
-        small = h;
-      }
+module _ {slots : List ℕ} {base m q : ℕ} {start : List ℕ} {at : ℕ} {out : List ℕ} {w to : ℕ} (s : SlotsLeft slots base m q start at out w to) where
+  -- the turn of part p
+  module _ {p r : ℕ} (turn : Turn w p r) where
+    pub slots_there : RemoteRoom slots base m q start at → base + rank_of m p < length slots
+    slots_there k =
+        let i = s.among p (subst (λ (l : List ℕ). In p l) (sym turn.parts) (inl refl)) in
+        omega (arith, k.there, rank_lt m p i.0 i.1)
 
-  module _ (out : List ℕ) (w to : ℕ) (s : SlotsLeft slots base m q start at out w to) where
-    pub slots_now : RemoteRoom slots base m q start at → 0 < w → SlotNow slots base m out w to
-    slots_now k pos =
-        let r = rest_is w pos s.small in
-        let i = s.among (lowest_of w) (subst (λ (l : List ℕ). In (lowest_of w) l) (sym r.parts) (inl refl)) in
-        record {
-          there = omega (arith, k.there, rank_lt m (lowest_of w) i.0 i.1);
-          room = omega (arith, s.writing.room, slots_length slots base m (parts_in w), ap length r.parts);
-        }
+    pub slots_room : to + 4 ≤ length out
+    slots_room = omega (arith, s.writing.room, slots_length slots base m (parts_in w), ap length turn.parts)
 
-    pub slots-more : (r v : ℕ) (next : List ℕ) → Rest w r → v ≡ entry_from slots base m (lowest_of w) → next ≡ sets out to (bytes_of 4 v)
-        → SlotsLeft slots base m q start at next r (to + 4)
-    slots-more r v next x e f =
-        let p = lowest_of w in
+    pub slots_more : {v : ℕ} {next : List ℕ} → v ≡ entry_from slots base m p → next ≡ sets out to (bytes_of 4 v) → SlotsLeft slots base m q start at next r (to + 4)
+    slots_more {v} {next} e f =
         let one = bytes_of 4 (entry_from slots base m p) in
         record {
           writing = write_more start at _ out to (slot_bytes slots base m (parts_in w)) one (slot_bytes slots base m (parts_in r)) next (to + 4) s.writing
-              (ap (slot_bytes slots base m) x.parts ∙ slots_cons slots base m p (parts_in r))
+              (ap (slot_bytes slots base m) turn.parts ∙ slots_cons slots base m p (parts_in r))
               (f ∙ ap (λ (z : ℕ). sets out to (bytes_of 4 z)) e)
               (ap (λ (z : ℕ). to + z) (sym (length-bytes 4 (entry_from slots base m p))));
-          among = λ y i. s.among y (subst (λ (l : List ℕ). In y l) (sym x.parts) (inr i));
-          small = omega (arith, x.less, s.small);
+          among = λ y i. s.among y (subst (λ (l : List ℕ). In y l) (sym turn.parts) (inr i));
         }
 
-    pub slots_done : w ≡ 0 → out ≡ sets start at (flat (map (bytes_of 4) (remote_slots slots base m q)))
-    slots_done e =
-        write_done start at _ out to (slot_bytes slots base m (parts_in w)) s.writing
-        (ap (λ (z : ℕ). slot_bytes slots base m (parts_in z)) e ∙ ap (slot_bytes slots base m) parts_none ∙ slots_nil slots base m)
+  pub slots_done : w ≡ 0 → out ≡ sets start at (flat (map (bytes_of 4) (remote_slots slots base m q)))
+  slots_done e =
+      write_done start at _ out to (slot_bytes slots base m (parts_in w)) s.writing
+      (ap (λ (z : ℕ). slot_bytes slots base m (parts_in z)) e ∙ ap (slot_bytes slots base m) parts_none ∙ slots_nil slots base m)

@@ -1,3 +1,4 @@
 pub mod Entries
 pub mod Rows
 pub mod Written
+pub mod Sources

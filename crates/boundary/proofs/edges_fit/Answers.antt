@@ -1,23 +1,13 @@
--- `boundary::edges_fit`: the ends of each edge are read, and the three pairs judged. Assumes nothing.
-use mathlib.Core.Path.{refl}
-use mathlib.Core.Logic.{inl, inr}
-use mathlib.Core.List.{[]}
-use lib.ListN.{get_or}
-use Rattle.index.specs.Index.{set_in}
-use Rattle.boundary.specs.Boundary.{faces_fit, faces_at}
-use Rattle.boundary.proofs.Laws.{three_read}
+-- `boundary::edges_fit`: each edge is there. Assumes nothing.
+use native.Mathlib.Omega.{arith}
+use Rattle.laws.proofs.Members.{get_or_in}
 use Rattle.boundary.proofs.edges_fit.Goals as goal
 
-pub pair_at-p-requires : goal.pair_at-p-requires
-pair_at-p-requires c = c.requires c.args.t.a (inl refl)
+pub slots_at-requires : goal.slots_at-requires
+slots_at-requires c = (omega arith, ((omega arith, omega arith), c.requires _ (get_or_in c.args.slots.now 0 0 (omega (arith, c.told-slots)))))
 
-pub pair_at-q-requires : goal.pair_at-q-requires
-pair_at-q-requires c = c.requires c.args.t.b (inr (inl refl))
+pub slots_at-requires-2 : goal.slots_at-requires-2
+slots_at-requires-2 c = (omega arith, ((omega arith, omega arith), c.requires _ (get_or_in c.args.slots.now 1 0 (omega (arith, c.told-slots)))))
 
-pub pair_at-r-requires : goal.pair_at-r-requires
-pair_at-r-requires c = c.requires c.args.t.c (inr (inr (inl refl)))
-
-pub returns : goal.returns
-returns c =
-    let a = c.args in
-    three_read (faces_fit 3) (faces_at (get_or (set_in a.image.now) a.part.0 []) 1) c.pairs_fit.ensures c.pair_at-p.ensures c.pair_at-q.ensures c.pair_at-r.ensures
+pub slots_at-requires-3 : goal.slots_at-requires-3
+slots_at-requires-3 c = (omega arith, ((omega arith, omega arith), c.requires _ (get_or_in c.args.slots.now 2 0 (omega (arith, c.told-slots)))))

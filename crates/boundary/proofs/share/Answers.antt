@@ -1,7 +1,6 @@
 -- `boundary::share`: one of the three edges is named by the other triangle. Assumes nothing.
-use Rattle.boundary.specs.Boundary.{three}
 use Rattle.boundary.proofs.Tests.{shares-three}
 use Rattle.boundary.proofs.share.Goals as goal
 
 pub returns : goal.returns
-returns c = let a = c.args in cc (shares-three a.p.a a.p.b a.p.c (three a.q))
+returns c = shares-three _ _ c.told-p c.contains.ensures.value c.contains-2.ensures.value c.contains-3.ensures.value

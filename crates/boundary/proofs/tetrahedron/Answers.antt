@@ -1,24 +1,24 @@
 -- `boundary::tetrahedron`: the slots stand, the triangles have the triples of four vertices, and each two share an edge. Assumes nothing.
+use native.Mathlib.Omega.{arith}
 use mathlib.Core.Path.{refl}
-use Rattle.boundary.specs.Boundary.{four}
 use Rattle.boundary.proofs.Laws.{ahead_there, part_keyed}
 use Rattle.boundary.proofs.Judging.{rows_there, fails, tetrahedron_judged, triangles_there}
 use Rattle.boundary.proofs.tetrahedron.Goals as goal
 
-pub quad_at-q-requires : goal.quad_at-q-requires
-quad_at-q-requires c = ahead_there c.requires.ahead
+pub slots_at-triangles-requires : goal.slots_at-triangles-requires
+slots_at-triangles-requires c = (omega arith, ((omega arith, omega arith), ahead_there c.requires.ahead))
 
-pub quad_stands-requires : goal.quad_stands-requires
-quad_stands-requires c = part_keyed c.requires.ahead
+pub stand-requires : goal.stand-requires
+stand-requires c = (omega arith, part_keyed c.requires.ahead)
 
 pub triangles_fit-requires : goal.triangles_fit-requires
-triangles_fit-requires c = triangles_there c.requires refl c.quad_at-q.ensures c.quad_stands.ensures c.if-quad_stands.true
+triangles_fit-requires c = triangles_there c.requires refl c.slots_at-triangles.ensures c.stand.ensures c.if-stand.true
 
 pub triangles_share-requires : goal.triangles_share-requires
-triangles_share-requires c = rows_there c.requires 2 (four c.quad_at-q.result) c.quad_at-q.ensures c.quad_stands.ensures c.if-quad_stands.true
+triangles_share-requires c = rows_there c.requires 2 c.slots_at-triangles.result c.slots_at-triangles.ensures c.stand.ensures c.if-stand.true
 
-pub returns-then-quad_stands : goal.returns-then-quad_stands
-returns-then-quad_stands c = tetrahedron_judged c.requires refl c.quad_at-q.ensures c.quad_stands.ensures c.if-quad_stands.true c.triangles_fit.ensures c.triangles_share.ensures
+pub returns-then-stand : goal.returns-then-stand
+returns-then-stand c = tetrahedron_judged c.requires refl c.slots_at-triangles.ensures c.stand.ensures c.if-stand.true c.triangles_fit.ensures c.triangles_share.ensures
 
 pub returns : goal.returns
-returns c = fails c.requires 2 (four c.quad_at-q.result) c.quad_at-q.ensures c.quad_stands.ensures refl c.if-quad_stands.false
+returns c = fails c.requires 2 c.slots_at-triangles.result c.slots_at-triangles.ensures c.stand.ensures refl c.if-stand.false

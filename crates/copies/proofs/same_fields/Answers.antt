@@ -2,9 +2,11 @@
 use Rattle.copies.proofs.Compare.{value_read, fields_compared}
 use Rattle.copies.proofs.same_fields.Goals as goal
 
-pub one_value-value-requires : goal.one_value-value-requires
-one_value-value-requires c =
-    let a = c.args in record { first_stands = value_read a.image.now a.at c.byte_at-kind.ensures.0 c.long_at-bits.ensures c.requires.at_stands; second_stands = value_read a.image.now a.to c.byte_at-to_kind.ensures.0 c.long_at-to_bits.ensures c.requires.to_stands }
+pub one_value-value-requires-clause-first_stands : goal.one_value-value-requires-clause-first_stands
+one_value-value-requires-clause-first_stands c = value_read c.args.image.now c.args.at c.byte_at-kind.ensures.0 c.long_at-bits.ensures c.requires.at_stands
+
+pub one_value-value-requires-clause-second_stands : goal.one_value-value-requires-clause-second_stands
+one_value-value-requires-clause-second_stands c = value_read c.args.image.now c.args.to c.byte_at-to_kind.ensures.0 c.long_at-to_bits.ensures c.requires.to_stands
 
 pub returns : goal.returns
 returns c =

@@ -1,9 +1,10 @@
--- `copies::same_name` meets its contract: numbers of 32 bits and dimensions are equal where the names are. Assumes nothing.
+-- `copies::same_name` meets its contract: names are equal only of rows of one dimension. Assumes nothing.
 use native.Mathlib.Omega.{arith}
-use Rattle.copies.proofs.Compare.{name_read}
+use Rattle.field.proofs.Reading.{bytes_all}
+use Rattle.copies.proofs.Compare.{names_compared}
 use Rattle.copies.proofs.same_name.Goals as goal
 
 pub returns : goal.returns
 returns c =
-    let a = c.args in
-    name_read a.image.now a.at a.to c.word_at-number.ensures c.byte_at-dim.ensures.0 c.word_at-to_number.ensures c.byte_at-to_dim.ensures.0 (omega arith) (omega arith)
+    let b = c.args.image.now in
+    names_compared b _ _ (bytes_all b (λ i. omega (arith, c.type_inv.image i))) c.name_at.ensures c.name_at-2.ensures

@@ -1,9 +1,8 @@
--- `copies::same_point` meets its contract: the three numbers that are read are the coordinates. Assumes nothing.
-use Rattle.copies.proofs.Compare.{points_compared}
+-- `copies::same_point` meets its contract: `==` of two arrays is the test of their numbers. Assumes nothing.
+use mathlib.Core.Path.{ap₂, ◌∙◌}
+use Rattle.laws.specs.Lists.{same}
+use Rattle.copies.proofs.Compare.{pointwise_same}
 use Rattle.copies.proofs.same_point.Goals as goal
 
 pub returns : goal.returns
-returns c =
-    let a = c.args in
-    points_compared a.image.now a.at a.to c.long_at.ensures c.long_at-2.ensures
-    c.long_at-3.ensures c.long_at-4.ensures c.long_at-5.ensures c.long_at-6.ensures
+returns c = c.eq.ensures ∙ pointwise_same _ _ ∙ ap₂ same c.point.ensures c.point-2.ensures

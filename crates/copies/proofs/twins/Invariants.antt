@@ -4,8 +4,5 @@ use Rattle.index.specs.Index.{set_in}
 use Rattle.copies.proofs.Loops.{Walks}
 use Rattle.copies.proofs.twins.Given as goal
 
-abbrev pub invariant-loop-w : goal.invariant-loop-w
-invariant-loop-w l = Walks (twin_agrees (set_in l.image) l.part.0 l.slot.0) l.initial.w l.w
-
-abbrev pub decreases-loop-w : goal.decreases-loop-w
-decreases-loop-w l = l.w
+abbrev pub invariant-loop-other : goal.invariant-loop-other
+invariant-loop-other l = Walks (twin_agrees (set_in l.tables.image.now) l.part.0 l.slot.0) l.others l.other-iterator

@@ -6,9 +6,6 @@ use mathlib.Core.List.{List}
 use mathlib.Core.Option.{Option, none, some}
 use lib.ListN.{length}
 use Rattle.paper.specs.declared.Box.{Box}
-use Rattle.paper.specs.declared.CheckAnswer.{CheckAnswer}
-use Rattle.paper.specs.declared.LookupAnswer.{LookupAnswer}
-use Rattle.paper.specs.declared.BoxAnswer.{BoxAnswer}
 use Rattle.paper.specs.Outcome.{Outcome, refused, accepted, answered}
 use Rattle.paper.specs.Sound.{Checked, check_of}
 use Rattle.paper.specs.Move.{Sizes, migrate_of, sizes_of}
@@ -17,6 +14,7 @@ use Rattle.paper.specs.Box.{box_asked}
 use Rattle.paper.specs.Answers.{check_answer, migrate_answer, lookup_answer, box_answer}
 use Rattle.demands.specs.Programs.{Migrator, Correct, CorrectCheck, CorrectLookup, CorrectBox, check_says, migrate_says, lookup_says, box_says, exact, exact_check, exact_lookup, exact_box}
 use Rattle.demands.proofs.Results.Unique.{checks_one, migrates_one, looks_up_one, bounds-one}
+use Rattle.paper.specs.Given.{CheckAnswer, LookupAnswer, BoxAnswer}
 
 -- ---- an answer for each outcome
 

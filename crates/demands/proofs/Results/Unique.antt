@@ -3,12 +3,9 @@
 use Prim.Native.Nat.{ℕ}
 use mathlib.Core.Path.{◌≡◌, sym, ◌∙◌}
 use mathlib.Core.List.{List}
-use Rattle.paper.specs.declared.CheckAnswer.{CheckAnswer}
-use Rattle.paper.specs.declared.MigrateAnswer.{MigrateAnswer}
-use Rattle.paper.specs.declared.LookupAnswer.{LookupAnswer}
-use Rattle.paper.specs.declared.BoxAnswer.{BoxAnswer}
 use Rattle.paper.specs.Promises.{Checks, Migrates, LooksUp, Bounds}
 use Rattle.paper.proofs.Injective.{check-one, migrate_one, lookup-one, box-one}
+use Rattle.paper.specs.Given.{CheckAnswer, MigrateAnswer, LookupAnswer, BoxAnswer}
 
 pub checks_one : {image : List ℕ} {r r' : CheckAnswer} → Checks image r → Checks image r' → r ≡ r'
 checks_one {r} {r'} c c' = check-one r r' (c.answer ∙ sym c'.answer)

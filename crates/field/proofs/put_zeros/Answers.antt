@@ -1,21 +1,15 @@
--- `field::put_zeros`: what is left to store gives what was to be stored. Assumes nothing.
-use Prim.Native.Nat.{ℕ}
+-- `field::put_zeros`: the zeros are put in their place. Assumes nothing.
+use mathlib.Core.Path.{◌≡◌, ap, ◌∙◌}
+use mathlib.Core.List.{List}
+use Prim.Native.Nat.{ℕ, ◌+◌, ◌-◌}
 use native.Mathlib.Omega.{arith}
-use lib.ListN.{length-replicate, get_or-replicate}
-use Rattle.field.proofs.Stores.{store_none, store_more, store_done}
+use lib.ListN.{length, take, drop, replicate, length-replicate}
+use Rattle.field.proofs.Stores.{put_is, length_run}
 use Rattle.field.proofs.put_zeros.Goals as goal
 
-pub loop-i-init : goal.loop-i-init
-loop-i-init c = store_none
-
-pub loop-i-preserved : goal.loop-i-preserved
-loop-i-preserved c =
-    let l = c.loop-i in
-    let n = c.args.n in
-    store_more l.invariant (omega (arith, length-replicate {A = ℕ} n 0)) (get_or-replicate n l.i 0 0 (omega arith))
-
-pub shape_of-out : goal.shape_of-out
-shape_of-out c = c.loop-i.invariant.same
-
 pub returns : goal.returns
-returns c = store_done c.loop-i.invariant (omega (arith, length-replicate {A = ℕ} c.args.n 0))
+returns c =
+    let a = c.args in
+    let e : a.at + a.n - a.at ≡ a.n = omega arith in
+    let f = ap (λ (k : ℕ). length (take k (drop a.at a.out.now))) e ∙ length_run a.out.now a.at a.n c.requires in
+    put_is a.out.now _ _ a.at a.n c.requires (length-replicate {A = ℕ} a.n 0) (c.fill.ensures.after (λ y h. h) ∙ ap {B = List ℕ} (λ (k : ℕ). replicate k 0) f)

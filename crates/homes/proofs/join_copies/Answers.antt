@@ -1,55 +1,33 @@
 -- `homes::join_copies`: what is left to do from here makes the whole (`Walking`). Assumes nothing.
-use Prim.Native.Nat.{◌+◌}
 use native.Mathlib.Omega.{arith}
 use mathlib.Core.Path.{refl}
-use lib.ListN.{get_or}
-use Rattle.field.specs.Bytes.{u32_at}
-use Rattle.homes.proofs.Walking.{Turn, walking_none, walking-turn, walking_more, walking_done}
+use Rattle.homes.proofs.Walking.{walking_none, walking-turn, walking_more, walking_done}
 use Rattle.homes.proofs.join_copies.Goals as goal
 
-pub loop-left-init : goal.loop-left-init
-loop-left-init c = walking_none c.requires
-
-pub bounds-starts-part : goal.bounds-starts-part
-bounds-starts-part c =
-    let turn : let a = c.args in let l = c.loop-left in
-    Turn a.image.now a.starts.now l.at c.lowest-part.result (get_or a.starts.now c.lowest-part.result 0 + u32_at a.image.now l.at) a.work.now l.ent = walking-turn c.loop-left.invariant c.lowest-part.ensures.0 c.rest-left.ensures _ refl in
-    omega (arith, turn)
+pub loop-part-init : goal.loop-part-init
+loop-part-init c = rw (c.into_iter-part-iterator.ensures.into_iter_gives, c.parts-part-items.ensures) (walking_none c.requires)
 
 pub word_at-requires : goal.word_at-requires
-word_at-requires c =
-    let turn : let a = c.args in let l = c.loop-left in
-    Turn a.image.now a.starts.now l.at c.lowest-part.result (get_or a.starts.now c.lowest-part.result 0 + u32_at a.image.now l.at) a.work.now l.ent = walking-turn c.loop-left.invariant c.lowest-part.ensures.0 c.rest-left.ensures _ refl in
-    omega (arith, turn)
+word_at-requires c = (walking-turn c.loop-part.invariant c.in-Some.ensures.steps _ refl).slot
 
 pub bounds-work-row : goal.bounds-work-row
-bounds-work-row c =
-    let turn : let a = c.args in let l = c.loop-left in
-    Turn a.image.now a.starts.now l.at c.lowest-part.result (get_or a.starts.now c.lowest-part.result 0 + u32_at a.image.now l.at) a.work.now l.ent = walking-turn c.loop-left.invariant c.lowest-part.ensures.0 c.rest-left.ensures _ refl in
-    let t = turn in omega (arith, c.wide.ensures.0, c.word_at.ensures, c.wide-in-loop-left.ensures.0)
+bounds-work-row c = (walking-turn c.loop-part.invariant c.in-Some.ensures.steps _ (rw c.word_at.ensures at c.row_of-row.ensures)).word
 
 pub bounds-ent-row : goal.bounds-ent-row
-bounds-ent-row c =
-    let turn : let a = c.args in let l = c.loop-left in
-    Turn a.image.now a.starts.now l.at c.lowest-part.result (get_or a.starts.now c.lowest-part.result 0 + u32_at a.image.now l.at) a.work.now l.ent = walking-turn c.loop-left.invariant c.lowest-part.ensures.0 c.rest-left.ensures _ refl in
-    let t = turn in omega (arith, c.wide.ensures.0, c.word_at.ensures, c.wide-in-loop-left.ensures.0)
+bounds-ent-row c = (walking-turn c.loop-part.invariant c.in-Some.ensures.steps _ (rw c.word_at.ensures at c.row_of-row.ensures)).entry
+
+pub offset_bounds-work-row : goal.offset_bounds-work-row
+offset_bounds-work-row c = omega (arith, walking-turn c.loop-part.invariant c.in-Some.ensures.steps _ (rw c.word_at.ensures at c.row_of-row.ensures))
+
+pub offset_bounds-ent-row : goal.offset_bounds-ent-row
+offset_bounds-ent-row c = omega (arith, walking-turn c.loop-part.invariant c.in-Some.ensures.steps _ (rw c.word_at.ensures at c.row_of-row.ensures))
 
 pub overflow_add-at : goal.overflow_add-at
-overflow_add-at c =
-    let turn : let a = c.args in let l = c.loop-left in
-    Turn a.image.now a.starts.now l.at c.lowest-part.result (get_or a.starts.now c.lowest-part.result 0 + u32_at a.image.now l.at) a.work.now l.ent = walking-turn c.loop-left.invariant c.lowest-part.ensures.0 c.rest-left.ensures _ refl in
-    omega (arith, turn)
+overflow_add-at c = omega (arith, walking-turn c.loop-part.invariant c.in-Some.ensures.steps _ refl, c.args.tables.now.indexed.small)
 
-pub loop-left-smaller : goal.loop-left-smaller
-loop-left-smaller c = c.rest-left.ensures.less
-
-pub loop-left-preserved : goal.loop-left-preserved
-loop-left-preserved c =
-    walking_more c.loop-left.invariant c.lowest-part.ensures.0 c.rest-left.ensures _ _
-    (omega (arith, c.wide.ensures.0, c.word_at.ensures, c.wide-in-loop-left.ensures.0)) c.union-all.ensures
-
-pub shape_of-ent : goal.shape_of-ent
-shape_of-ent c = c.loop-left.invariant.same
+pub loop-part-preserved : goal.loop-part-preserved
+loop-part-preserved c =
+    walking_more c.loop-part.invariant c.in-Some.ensures.steps _ _ (rw c.word_at.ensures at c.row_of-row.ensures) c.union-all.ensures
 
 pub returns : goal.returns
-returns c = walking_done c.loop-left.invariant c.loop-left-test.false
+returns c = walking_done c.loop-part.invariant c.in-None.ensures.steps.0

@@ -2,8 +2,5 @@
 use Rattle.homes.proofs.Walking.{Walking}
 use Rattle.homes.proofs.join_copies.Given as goal
 
-abbrev pub invariant-loop-left : goal.invariant-loop-left
-invariant-loop-left l = Walking l.image l.starts l.from l.others l.own l.i l.work l.initial.ent l.ent l.left l.at l.all
-
-abbrev pub decreases-loop-left : goal.decreases-loop-left
-decreases-loop-left l = l.left
+abbrev pub invariant-loop-part : goal.invariant-loop-part
+invariant-loop-part l = Walking l.tables.image.now l.tables.starts.now l.from l.others l.own l.i l.work l.initial.ent l.ent l.part-iterator l.at l.all

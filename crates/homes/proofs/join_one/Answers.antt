@@ -1,18 +1,9 @@
 -- `homes::join_one`: the lowest row, then its copies. Assumes nothing.
-use Rattle.homes.specs.CopyRows.{other_rows}
 use Rattle.homes.proofs.Walking.{others_there, one-joined}
-use Rattle.homes.proofs.Unions.{length-one}
 use Rattle.homes.proofs.join_one.Goals as goal
 
 pub join_copies-requires : goal.join_copies-requires
-join_copies-requires c =
-    others_there c.requires c.long_at.ensures c.rest-others.ensures _
+join_copies-requires c = others_there c.requires c.long_at.ensures c.rest-others.ensures _
 
 pub returns : goal.returns
-returns c =
-    one-joined c.requires c.long_at.ensures c.rest-others.ensures _ c.join_copies.ensures
-
-pub shape_of-ent : goal.shape_of-ent
-shape_of-ent c =
-    let a = c.args in
-    length-one a.i a.g a.ent.now (other_rows a.image.now a.starts.now a.at) _ (returns c).1
+returns c = one-joined c.requires c.long_at.ensures c.rest-others.ensures _ c.join_copies.ensures

@@ -1,25 +1,12 @@
--- `index::find`: the slot of a name in a part is the lower bound's, and its key is compared once. Assumes nothing.
+-- `index::find`: the slot of a name in a part is where the search among the names of the part finds it. Assumes nothing.
 use Rattle.index.specs.Find.{Sought}
-use Rattle.index.proofs.Halves.{sorted_at, found, not_found, at_end}
+use Rattle.index.proofs.Searched.{found, missed}
 use Rattle.index.proofs.find.Goals as goal
 
-pub lower-i-requires : goal.lower-i-requires
-lower-i-requires c = sorted_at _ _ c.wide-first.ensures.0 c.wide-last.ensures.0 c.requires.sorted
-
-pub returns-then-keys-i : goal.returns-then-keys-i
+pub returns-in-Ok : goal.returns-in-Ok
 unfolding Sought
-returns-then-keys-i c =
-    found c.args.starts.now c.args.part.0 c.requires.sorted _ _ c.wide-first.ensures.0 c.wide-last.ensures.0 c.lower-i.ensures
-    c.if-i-last.true c.if-keys-i.true
+returns-in-Ok c = found _ _ _ c.requires.sorted _ _ c.in-Ok.ensures.position
 
-pub returns-else-keys-i : goal.returns-else-keys-i
+pub returns-in-Err : goal.returns-in-Err
 unfolding Sought
-returns-else-keys-i c =
-    not_found c.args.starts.now c.args.part.0 c.requires.sorted _ _ c.wide-first.ensures.0 c.wide-last.ensures.0 c.lower-i.ensures
-    c.if-i-last.true c.if-keys-i.false
-
-pub returns-else-i-last : goal.returns-else-i-last
-unfolding Sought
-returns-else-i-last c =
-    at_end c.args.starts.now c.args.part.0 c.requires.sorted _ _ c.wide-first.ensures.0 c.wide-last.ensures.0 c.lower-i.ensures
-    c.if-i-last.false
+returns-in-Err c = missed _ _ _ c.requires.sorted _ _ c.in-Err.ensures.position

@@ -1,7 +1,6 @@
 -- `index::head`: the refusals 1 to 5 in their order. Assumes nothing.
-use mathlib.Core.Path.{sym, ◌∙◌}
 use native.Mathlib.Omega.{arith}
-use borrow.Author.Tests.{not-true, not-false}
+use Rattle.std.proofs.Common.{rules}
 use Rattle.index.proofs.HeadLaws.{refuse_1, refuse_2, refuse-3, refuse-4, refuse-5, head-passes}
 use Rattle.index.proofs.head.Goals as goal
 
@@ -12,18 +11,16 @@ pub returns-then-image-lt8 : goal.returns-then-image-lt8
 returns-then-image-lt8 c = refuse_2 _ (omega arith) c.if-image-lt8.true
 
 pub returns-then-not-has_mark : goal.returns-then-not-has_mark
-returns-then-not-has_mark c = refuse-3 _ (omega arith) (omega arith) (sym c.has_mark.ensures ∙ not-true _ c.if-not-has_mark.true-raw)
+returns-then-not-has_mark c = refuse-3 _ (omega arith) (omega arith) (search rules)
 
 pub returns-then-half_at-ne1 : goal.returns-then-half_at-ne1
 returns-then-half_at-ne1 c =
-    refuse-4 _ (omega arith) (omega arith) (sym c.has_mark.ensures ∙ not-false _ c.if-not-has_mark.false-raw) (λ e. c.if-half_at-ne1.true (c.half_at.ensures.0 ∙ e))
+    refuse-4 _ (omega arith) (omega arith) (search rules) (search rules)
 
 pub returns-then-not-has_count : goal.returns-then-not-has_count
 returns-then-not-has_count c =
-    refuse-5 _ (omega arith) (omega arith) (sym c.has_mark.ensures ∙ not-false _ c.if-not-has_mark.false-raw) (sym c.half_at.ensures.0 ∙ c.if-half_at-ne1.false)
-    (sym c.has_count.ensures ∙ not-true _ c.if-not-has_count.true-raw)
+    refuse-5 _ (omega arith) (omega arith) (search rules) (search rules) (search rules)
 
 pub returns : goal.returns
 returns c =
-    head-passes _ (omega arith) (omega arith) (sym c.has_mark.ensures ∙ not-false _ c.if-not-has_mark.false-raw) (sym c.half_at.ensures.0 ∙ c.if-half_at-ne1.false)
-    (sym c.has_count.ensures ∙ not-false _ c.if-not-has_count.false-raw)
+    head-passes _ (omega arith) (omega arith) (search rules) (search rules) (search rules)

@@ -15,23 +15,21 @@ loop-p-init c = parts_start (fixed_of _ _ _ _ _ c.requires c.byte_at-n.ensures.0
 pub returns-then-image-at : goal.returns-then-image-at
 returns-then-image-at c = parts_cut _ _ _ _ _ _ c.loop-p.invariant c.loop-p-test.true refl (simp length-set) refl c.if-image-at.true
 
-pub walk_rows-e-requires : goal.walk_rows-e-requires
-walk_rows-e-requires c = record { small = omega arith; offs_room = omega arith; keys_room = omega arith; few = omega arith; scaled = omega arith; inside = omega arith }
-
-pub returns-in-Over : goal.returns-in-Over
-returns-in-Over c =
-    let w = c.walk_rows-e in
-    parts-over _ _ _ _ _ _ c.loop-p.invariant c.loop-p-test.true w.auto.offs (simp length-set) w.auto.keys
-    _ c.word_at-count.ensures (ended_over _ _ (sym c.in-Over.is ∙ w.ensures.answer))
+pub returns-in_err-at : goal.returns-in_err-at
+returns-in_err-at c =
+    let w = c.walk_rows in
+    rw c.from_residual.ensures
+    (parts-over _ _ _ _ _ _ c.loop-p.invariant c.loop-p-test.true w.auto.offs (simp length-set) w.auto.keys
+    _ c.word_at-count.ensures (ended_over _ _ (sym c.in_err-at.was ∙ w.ensures.answer)))
 
 pub loop-p-preserved : goal.loop-p-preserved
 loop-p-preserved c =
-    let w = c.walk_rows-e in
+    let w = c.walk_rows in
     parts_step _ _ _ _ _ _ c.loop-p.invariant _ _ _ _ _ c.loop-p-test.true c.word_at-count.ensures
-    w.ensures c.in-At.is w.auto.offs w.auto.keys
+    w.ensures c.in_ok-at.was w.auto.offs w.auto.keys
 
 pub returns-then-at-image : goal.returns-then-at-image
-returns-then-at-image c = parts_done _ _ _ _ _ _ c.loop-p.invariant c.loop-p-test.false c.if-at-image.true
+returns-then-at-image c = parts_done _ _ _ _ _ _ c.loop-p.invariant (omega (arith, c.loop-p.auto.p-end)) c.if-at-image.true
 
 pub returns : goal.returns
-returns c = parts_unfilled _ _ _ _ _ _ c.loop-p.invariant (simp length-set) c.loop-p-test.false c.if-at-image.false
+returns c = parts_unfilled _ _ _ _ _ _ c.loop-p.invariant (simp length-set) (omega (arith, c.loop-p.auto.p-end)) c.if-at-image.false

@@ -5,7 +5,7 @@ use Rattle.text.proofs.Ends.{listed_room}
 use Rattle.listing.proofs.main.Goals as goal
 
 pub slice_bounds-out-end : goal.slice_bounds-out-end
-slice_bounds-out-end c = listed_room _ _ _ _ _ c.in-Bytes.is c.write_listing-written.ensures
+slice_bounds-out-end c = listed_room _ _ _ _ _ c.in-Some.is c.write_listing.ensures
 
 pub slice_bounds-write_all-end : goal.slice_bounds-write_all-end
-slice_bounds-write_all-end c = sym (length-take-le _ _ (listed_room _ _ _ _ _ c.in-Bytes.is c.write_listing-written.ensures))
+slice_bounds-write_all-end c = sym (length-take-le _ _ (listed_room _ _ _ _ _ c.in-Some.is c.write_listing.ensures))

@@ -1,5 +1,4 @@
 -- The cycle {mark}: the closures of the entries so far are marked; the dimension falls at each call. Assumes nothing.
-use Prim.Native.Nat.{◌+◌, ◌-◌}
 use Rattle.marks.proofs.Closing.{Closing}
 use Rattle.marks.proofs.+mark.Given as goal
 
@@ -7,7 +6,4 @@ abbrev pub decreases-mark : goal.decreases-mark
 decreases-mark l = l.dim
 
 abbrev pub invariant-loop-i : goal.invariant-loop-i
-invariant-loop-i l = Closing l.image l.starts l.part.0 l.slot.0 l.dim l.q l.initial.work l.work l.i
-
-abbrev pub decreases-loop-i : goal.decreases-loop-i
-decreases-loop-i l = l.dim + 1 - l.i
+invariant-loop-i l = Closing l.tables.image.now l.tables.starts.now l.part.0 l.slot.0 l.dim l.q l.initial.work l.work l.i

@@ -8,15 +8,12 @@ loop-p-init c = all_start _ _ _ _ _
 
 pub mark_part-requires : goal.mark_part-requires
 mark_part-requires c =
-    record { placed = placed_again c.requires.placed _ c.loop-p.invariant.same; part_in_bounds = omega (arith, c.requires.n_value, c.loop-p-test.true); closed = all_closed c.requires.placed c.requires.blank _ _ c.loop-p.invariant }
+    record { placed = placed_again c.requires.placed _ c.loop-p.invariant.same; part_in_bounds = omega (arith, c.args.tables.now.indexed.count); closed = all_closed c.requires.placed c.requires.blank _ _ c.loop-p.invariant }
 
 pub loop-p-preserved : goal.loop-p-preserved
 loop-p-preserved c =
-    all_turn c.requires.placed _ _ _ (omega (arith, c.requires.n_value, c.loop-p-test.true)) c.loop-p.invariant c.mark_part.ensures
-
-pub shape_of-work : goal.shape_of-work
-shape_of-work c = c.loop-p.invariant.same
+    all_turn c.requires.placed _ _ _ (omega (arith, c.args.tables.now.indexed.count)) c.loop-p.invariant c.mark_part.ensures
 
 pub returns : goal.returns
 returns c =
-    all_end c.requires.placed c.requires.blank _ _ (omega (arith, c.requires.n_value, c.loop-p-test.false)) c.loop-p.invariant
+    all_end c.requires.placed c.requires.blank _ _ (omega (arith, c.args.tables.now.indexed.count)) c.loop-p.invariant

@@ -1,35 +1,22 @@
--- `migrate::deliver`: refused by sizing, or where the output is too short, or written. Assumes nothing.
+-- `migrate::deliver`: refused where the output is too short, or written. Assumes nothing.
 use native.Mathlib.Omega.{arith}
+use Rattle.std.proofs.Math.Logic.{∥∥₁_elim}
+use Rattle.std.proofs.Props.{props}
 use Rattle.sizing.proofs.Amounts.{bytes_is, bytes_fit, rows_fit}
-use Rattle.migrate.proofs.Delivered.{size_stops, short_output, delivered}
-use Rattle.sizing.proofs.Fitting.{is_refused, is_sized}
+use Rattle.migrate.proofs.Delivered.{short_output, delivered}
 use Rattle.migrate.proofs.deliver.Goals as goal
 
-pub returns-then-bytes-out : goal.returns-then-bytes-out
-returns-then-bytes-out c =
-    let sized = is_sized c.requires _ _ _ _ _ c.in-Fits.is in
-    short_output _ _ _ _ sized c.if-bytes-out.true _ c.nowhere.ensures
+pub returns-then-fits-out : goal.returns-then-fits-out
+returns-then-fits-out c = short_output _ _ _ c.requires c.if-fits-out.true _ c.into.ensures
 
 pub write-requires : goal.write-requires
-write-requires c =
-    let sized = is_sized c.requires _ _ _ _ _ c.in-Fits.is in
-    record { prepared = sized.prepared; room = omega (arith, bytes_is _ _ sized.numbers, c.if-bytes-out.false) }
+write-requires c = omega (arith, bytes_is _ _ c.requires, c.if-fits-out.false)
 
 pub overflow_cast-result : goal.overflow_cast-result
-overflow_cast-result c =
-    let sized = is_sized c.requires _ _ _ _ _ c.in-Fits.is in
-    omega (arith, bytes_fit sized.prepared sized.numbers)
+overflow_cast-result c = ∥∥₁_elim c.args.plan.now.prepared (Prim.hlevel props) (λ p. omega (arith, bytes_fit p c.requires))
 
-pub overflow_cast-result-in-Fits : goal.overflow_cast-result-in-Fits
-overflow_cast-result-in-Fits c =
-    let sized = is_sized c.requires _ _ _ _ _ c.in-Fits.is in
-    omega (arith, rows_fit sized.prepared sized.numbers)
+pub overflow_cast-result-2 : goal.overflow_cast-result-2
+overflow_cast-result-2 c = ∥∥₁_elim c.args.plan.now.prepared (Prim.hlevel props) (λ p. omega (arith, rows_fit p c.requires))
 
-pub returns-in-Refused : goal.returns-in-Refused
-returns-in-Refused c =
-    size_stops _ _ _ _ _ (is_refused c.requires _ c.in-Refused.is)
-
-pub returns-else-bytes-out : goal.returns-else-bytes-out
-returns-else-bytes-out c =
-    let sized = is_sized c.requires _ _ _ _ _ c.in-Fits.is in
-    delivered _ _ _ _ sized c.if-bytes-out.false _ c.write.ensures
+pub returns : goal.returns
+returns c = delivered _ _ _ c.requires c.if-fits-out.false _ c.write.ensures

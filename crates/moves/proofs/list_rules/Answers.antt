@@ -1,69 +1,72 @@
--- `moves::list_rules`: each answer stops the list, or makes it ready for the next rule; the points are bound from the last call back to the
--- start. Assumes nothing.
+-- `moves::list_rules`: each rule stops the list, or passes and makes it ready for the next. Assumes nothing.
+use mathlib.Core.Path.{refl}
+use native.Mathlib.Omega.{arith}
+use Rattle.std.proofs.lemmas.Result.{err_from_is_err_and}
 use Rattle.paper.specs.declared.EntryRule.TheVariants.{Whole, Destination, Known, Object}
-use Rattle.moves.specs.Stages.{ListJudged}
-use Rattle.moves.proofs.Stages.{stops, all_passed, first_ready, second_ready, third_ready, last_ready}
+use Rattle.index.specs.Index.{set_in}
+use Rattle.moves.proofs.Judging.{ascending, by_whole, by_destination, by_known, by_object}
+use Rattle.moves.proofs.Stages.{stops, goes_on, none_ahead, last_stage}
 use Rattle.moves.proofs.list_rules.Goals as goal
 
-pub first_entry-whole-requires : goal.first_entry-whole-requires
-first_entry-whole-requires c = first_ready c.requires.image_len
+pub returns-in_err-all_pass : goal.returns-in_err-all_pass
+returns-in_err-all_pass c =
+    let S = set_in c.args.image.now in
+    let l = c.args.list.now in
+    let whole = by_whole S l _ c.first_unfit.ensures in
+    let p = err_from_is_err_and c.from_residual.result c.from_residual.ensures.1 in rw (p.1, p.2) (stops Whole S l (none_ahead S l) _ whole _ c.in_err-all_pass.ensures)
 
-pub returns-in-At : goal.returns-in-At
-returns-in-At c =
-    let pre = c.requires in
-    let first = first_ready pre.image_len in
-    stops _ _ Whole first.passed _ c.first_entry-whole.ensures _ c.in-At.is _ c.stop.ensures
+pub first_astray-requires : goal.first_astray-requires
+first_astray-requires c =
+    let S = set_in c.args.image.now in
+    let l = c.args.list.now in
+    let whole = by_whole S l _ c.first_unfit.ensures in
+    let second = goes_on Whole S l Destination refl (none_ahead S l) _ whole _ c.in_ok-all_pass.ensures in
+    ascending S l (second Whole (omega arith))
 
-pub first_entry-part-requires : goal.first_entry-part-requires
-first_entry-part-requires c =
-    let pre = c.requires in
-    second_ready (first_ready pre.image_len) _ c.first_entry-whole.ensures c.in-None.is
+pub returns-in_err-all_pass-2 : goal.returns-in_err-all_pass-2
+returns-in_err-all_pass-2 c =
+    let S = set_in c.args.image.now in
+    let l = c.args.list.now in
+    let whole = by_whole S l _ c.first_unfit.ensures in
+    let second = goes_on Whole S l Destination refl (none_ahead S l) _ whole _ c.in_ok-all_pass.ensures in
+    let parts = by_destination S l _ c.requires.image_len _ c.first_astray.ensures in
+    let p = err_from_is_err_and c.from_residual-in_err-all_pass-2.result c.from_residual-in_err-all_pass-2.ensures.1 in rw (p.1, p.2) (stops Destination S l second _ parts _ c.in_err-all_pass-2.ensures)
 
-pub returns-in-At-part : goal.returns-in-At-part
-returns-in-At-part c =
-    let pre = c.requires in
-    let first = first_ready pre.image_len in
-    let second = second_ready first _ c.first_entry-whole.ensures c.in-None.is in
-    stops _ _ Destination second.passed _ c.first_entry-part.ensures _ c.in-At-part.is _ c.stop-in-At-part.ensures
+pub first_unknown-requires : goal.first_unknown-requires
+first_unknown-requires c =
+    let S = set_in c.args.image.now in
+    let l = c.args.list.now in
+    let whole = by_whole S l _ c.first_unfit.ensures in
+    let second = goes_on Whole S l Destination refl (none_ahead S l) _ whole _ c.in_ok-all_pass.ensures in
+    ascending S l (second Whole (omega arith))
 
-pub sweep-known-requires : goal.sweep-known-requires
-sweep-known-requires c =
-    let pre = c.requires in
-    let first = first_ready pre.image_len in
-    let second = second_ready first _ c.first_entry-whole.ensures c.in-None.is in
-    third_ready second pre.catalog _ c.first_entry-part.ensures c.in-None-part.is
+pub returns-in_err-all_pass-3 : goal.returns-in_err-all_pass-3
+returns-in_err-all_pass-3 c =
+    let S = set_in c.args.image.now in
+    let l = c.args.list.now in
+    let whole = by_whole S l _ c.first_unfit.ensures in
+    let second = goes_on Whole S l Destination refl (none_ahead S l) _ whole _ c.in_ok-all_pass.ensures in
+    let parts = by_destination S l _ c.requires.image_len _ c.first_astray.ensures in
+    let third = goes_on Destination S l Known refl second _ parts _ c.in_ok-all_pass-2.ensures in
+    let known = by_known l c.requires.catalog _ c.first_unknown.ensures in
+    let p = err_from_is_err_and c.from_residual-in_err-all_pass-3.result c.from_residual-in_err-all_pass-3.ensures.1 in rw (p.1, p.2) (stops Known S l third _ known _ c.in_err-all_pass-3.ensures)
 
-pub returns-in-At-known : goal.returns-in-At-known
-returns-in-At-known c =
-    let pre = c.requires in
-    let first = first_ready pre.image_len in
-    let second = second_ready first _ c.first_entry-whole.ensures c.in-None.is in
-    let third = third_ready second pre.catalog _ c.first_entry-part.ensures c.in-None-part.is in
-    stops _ _ Known third.passed _ c.sweep-known.ensures _ c.in-At-known.is _ c.stop-in-At-known.ensures
-
-pub sweep-object-requires : goal.sweep-object-requires
-sweep-object-requires c =
-    let pre = c.requires in
-    let first = first_ready pre.image_len in
-    let second = second_ready first _ c.first_entry-whole.ensures c.in-None.is in
-    let third = third_ready second pre.catalog _ c.first_entry-part.ensures c.in-None-part.is in
-    last_ready third _ c.sweep-known.ensures c.in-None-known.is
-
-pub returns-in-At-object : goal.returns-in-At-object
-returns-in-At-object c =
-    let pre = c.requires in
-    let first = first_ready pre.image_len in
-    let second = second_ready first _ c.first_entry-whole.ensures c.in-None.is in
-    let third = third_ready second pre.catalog _ c.first_entry-part.ensures c.in-None-part.is in
-    let last = last_ready third _ c.sweep-known.ensures c.in-None-known.is in
-    stops _ _ Object last.passed _ c.sweep-object.ensures _ c.in-At-object.is _ c.stop-in-At-object.ensures
+pub first_covered-requires-clause-ascending : goal.first_covered-requires-clause-ascending
+first_covered-requires-clause-ascending c =
+    let S = set_in c.args.image.now in
+    let l = c.args.list.now in
+    let whole = by_whole S l _ c.first_unfit.ensures in
+    let second = goes_on Whole S l Destination refl (none_ahead S l) _ whole _ c.in_ok-all_pass.ensures in
+    ascending S l (second Whole (omega arith))
 
 pub returns : goal.returns
-unfolding ListJudged
 returns c =
-    let pre = c.requires in
-    let first = first_ready pre.image_len in
-    let second = second_ready first _ c.first_entry-whole.ensures c.in-None.is in
-    let third = third_ready second pre.catalog _ c.first_entry-part.ensures c.in-None-part.is in
-    let last = last_ready third _ c.sweep-known.ensures c.in-None-known.is in
-    all_passed _ _ _ last.passed c.sweep-object.ensures c.in-None-object.is
+    let S = set_in c.args.image.now in
+    let l = c.args.list.now in
+    let whole = by_whole S l _ c.first_unfit.ensures in
+    let second = goes_on Whole S l Destination refl (none_ahead S l) _ whole _ c.in_ok-all_pass.ensures in
+    let parts = by_destination S l _ c.requires.image_len _ c.first_astray.ensures in
+    let third = goes_on Destination S l Known refl second _ parts _ c.in_ok-all_pass-2.ensures in
+    let known = by_known l c.requires.catalog _ c.first_unknown.ensures in
+    let last = goes_on Known S l Object refl third _ known _ c.in_ok-all_pass-3.ensures in
+    last_stage S l last _ (by_object l c.requires.catalog (last Known (omega arith)) _ c.first_covered.ensures) _ c.all_pass-4.ensures

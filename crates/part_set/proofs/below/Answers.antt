@@ -2,13 +2,9 @@
 use mathlib.Core.Path.{ap, ◌∙◌}
 use Prim.Native.Nat.{ℕ, ◌%◌}
 use native.Mathlib.Omega.{arith}
-use lib.Pow.{pow_pos}
 use lib.Count.{ones}
 use Rattle.part_set.proofs.Rank.{rank_ones, rank_le}
 use Rattle.part_set.proofs.below.Goals as goal
-
-pub nonzero_rem-result : goal.nonzero_rem-result
-nonzero_rem-result c = omega (arith, c.single.ensures, pow_pos c.args.p)
 
 pub returns : goal.returns
 returns c =

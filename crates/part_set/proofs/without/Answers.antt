@@ -1,17 +1,10 @@
 -- `part_set::without`: a part that is there is taken off as a number. Assumes nothing.
 use mathlib.Core.Path.{ap, ◌∙◌}
 use Prim.Native.Nat.{ℕ, ◌-◌}
-use native.Mathlib.Omega.{arith}
 use Rattle.part_set.specs.Masks.{has, parts_in}
-use Rattle.part_set.proofs.OnePart.{pow_le, parts_without}
+use Rattle.part_set.proofs.OnePart.{parts_without}
 use Rattle.laws.proofs.Tests.{true_T}
 use Rattle.part_set.proofs.without.Goals as goal
-
-pub overflow_sub-result : goal.overflow_sub-result
-overflow_sub-result c =
-    let m = c.args.mask in
-    let p = c.args.p in
-    omega (arith, c.single.ensures, pow_le m p (true_T (has m p) c.requires.1))
 
 pub returns : goal.returns
 returns c =

@@ -1,10 +1,6 @@
 -- `places::tally_part`: the rows so far are counted. Assumes nothing.
-use Prim.Native.Nat.{◌-◌}
 use Rattle.places.proofs.CountedRows.{Counting}
 use Rattle.places.proofs.tally_part.Given as goal
 
 abbrev pub invariant-loop-s : goal.invariant-loop-s
 invariant-loop-s l = Counting l.covered l.dest l.p l.first l.count l.initial.counts l.counts l.s l.left
-
-abbrev pub decreases-loop-s : goal.decreases-loop-s
-decreases-loop-s l = l.count - l.s

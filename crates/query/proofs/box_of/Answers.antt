@@ -1,16 +1,9 @@
--- `query::box_of`: refused as the check refuses, or the box by the tables that it fills. Assumes nothing.
-use native.Mathlib.Omega.{arith}
-use Rattle.sound.proofs.Examining.{surveyed_refused, surveyed_sound}
+-- `query::box_of`: refused as the check refuses. Assumes nothing.
+use Rattle.std.proofs.lemmas.Result.{err_from_is_err_and}
 use Rattle.query.proofs.Accepted.{box_refused}
 use Rattle.query.proofs.box_of.Goals as goal
 
-pub survey-surveyed-requires : goal.survey-surveyed-requires
-survey-surveyed-requires c = record { offs_room = omega arith; starts_room = omega arith; keys_room = omega arith }
-
-pub box_in-requires : goal.box_in-requires
-box_in-requires c =
-    (surveyed_sound c.survey-surveyed.ensures _ _ c.in-Sound.is).index
-
-pub returns-in-Refused : goal.returns-in-Refused
-returns-in-Refused c =
-    record { answer = box_refused _ _ _ (surveyed_refused c.survey-surveyed.ensures _ c.in-Refused.is) _ }
+pub returns-in_err-sound : goal.returns-in_err-sound
+returns-in_err-sound c =
+    let refusal = err_from_is_err_and c.from_residual.result c.from_residual.ensures.1 in
+    rw (refusal.1, refusal.2) (record { answer = box_refused _ _ _ c.in_err-sound.ensures _ })

@@ -3,10 +3,10 @@ use Rattle.paper.specs.Box.{grow_all, box_around}
 use Rattle.query.specs.Vertices.{further}
 use Rattle.query.proofs.grown.Goals as goal
 
-pub returns-in-Empty : goal.returns-in-Empty
+pub returns-in-None : goal.returns-in-None
 unfolding further grow_all box_around
-returns-in-Empty c = rw c.in-Empty.is
+returns-in-None c = rw c.in-None.is
 
-pub returns-in-Around : goal.returns-in-Around
+pub returns-in-Some : goal.returns-in-Some
 unfolding further grow_all
-returns-in-Around c = rw (c.in-Around.is, c.grow.ensures)
+returns-in-Some c = rw (c.in-Some.is, c.grow.ensures)

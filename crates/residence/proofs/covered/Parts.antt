@@ -2,12 +2,11 @@
 use Prim.Native.Nat.{ℕ, suc, ◌+◌, ◌-◌, ◌≤◌, ◌<◌}
 use native.Mathlib.Numerals.{add-one}
 use native.Mathlib.Omega.{arith}
-use mathlib.Core.Path.{◌≡◌, refl, sym, ap, ◌∙◌, subst}
+use mathlib.Core.Path.{◌≡◌, sym, ap, ◌∙◌, subst}
 use mathlib.Core.Bool.{Bool, false, not, ◌&&◌, ◌||◌, cond}
 use mathlib.Core.Logic.{◌⊎◌, inl, inr}
 use mathlib.Core.List.{List, [], map}
 use lib.ListN.{length, get_or, take}
-use lib.Seq.{take_all}
 use lib.Dec.{T, eqb, ltb, ltb→lt, nltb→le}
 use Rattle.laws.specs.Lists.{In, every, some?, pairwise, member}
 use Rattle.laws.proofs.Tests.{and_l, decide, iff_eq}
@@ -19,7 +18,7 @@ use Rattle.index.specs.Index.{set_in, row_from, Indexed}
 use Rattle.paper.specs.Sound.{judged}
 use Rattle.demands.proofs.Sound.Rows.{fields_of}
 use Rattle.residence.specs.Tables.{slot_covered}
-use Rattle.residence.specs.Marks.{Marked, slots_named, RowStands, Standing, Blank, CoverFilled}
+use Rattle.residence.specs.Marks.{Marked, slots_named, RowStands, Standing, Blank}
 use Rattle.rows.proofs.Laws.{part-rows, part_there, row_there, offset_there}
 use Rattle.residence.proofs.covered.Marks.{some_take, mark_none, mark_same, mark_then}
 
@@ -61,15 +60,11 @@ module _ {b offs starts : List ℕ} {n : ℕ} (index : Indexed b offs starts n) 
   pub row_read : (p s at : ℕ) → s < length (get_or (set_in b) p []) → at ≡ get_or offs (get_or starts p 0 + s) 0 → at + 48 ≤ length b
   row_read p s at h e = omega (arith, offset_there index p s h)
 
-  pub part_asked : (p : ℕ) → p < n → (p + 1 < length starts) × (get_or starts p 0 ≤ get_or starts (p + 1) 0)
-  part_asked p h = (omega (arith, index.few, index.starts_room), omega (arith, index.next p h))
-
 -- ---- the rows of a part
 
 -- the slots that the first s rows name are marked
-pub record PartInv (rows : List Row) (first : ℕ) (c₀ c : List ℕ) (s : ℕ) : Type 0 where
-  pub few : s ≤ length rows
-  pub marks : Marked first (slot_covered (take s rows)) c₀ c
+abbrev pub PartInv : List Row → ℕ → List ℕ → List ℕ → ℕ → Type 0
+PartInv rows first c₀ c s = Marked first (slot_covered (take s rows)) c₀ c
 
 module _ {b offs starts : List ℕ} {n : ℕ} {c₀ : List ℕ} (st : Standing b offs starts n c₀) where
   abbrev S : Set
@@ -91,7 +86,7 @@ module _ {b offs starts : List ℕ} {n : ℕ} {c₀ : List ℕ} (st : Standing b
 
     pub part_start : PartInv rows (get_or starts p 0) c₀ c₀ 0
     unfolding slot_covered some?
-    part_start = record { few = omega arith; marks = mark_none (get_or starts p 0) c₀ }
+    part_start = mark_none (get_or starts p 0) c₀
 
     module _ (first count : ℕ) (ef : first ≡ get_or starts p 0 + 0) (ec : count ≡ get_or starts (p + 1) 0 - get_or starts p 0) where
       is-first : first ≡ get_or starts p 0
@@ -119,59 +114,32 @@ module _ {b offs starts : List ℕ} {n : ℕ} {c₀ : List ℕ} (st : Standing b
             low = subst (λ (r : Row). r.dim ≤ 3) is_row (fields_of (length S) p (row_at S p s) (st.fields p s there)).dim;
             inside = λ f i.
                 let l = slot_inside rows (row_at S p s) (slots_stand_lem p s there) f (subst (λ (r : Row). In f (slots_named r)) (sym is_row) i) in
-                omega (arith, is-first, inv.marks.same, st.room, row_there st.index p f l);
+                omega (arith, is-first, inv.same, st.room, row_there st.index p f l);
           }
 
           pub part_turn : (c' : List ℕ) → Marked first (λ f. member f (slots_named (row_from b at))) c c' → PartInv rows (get_or starts p 0) c₀ c' (s + 1)
           unfolding slot_covered row_at
           part_turn c' m =
               let m' = subst (λ (k : ℕ). Marked k (λ f. member f (slots_named (row_from b at))) c c') is-first m in
-              record {
-                few = omega (arith, there);
-                marks = mark_same (get_or starts p 0)
-                    (λ f. sym (ap (λ (k : ℕ). some? (λ r. member f (slots_named r)) (take k rows)) (add-one s)
-                    ∙ some_take (λ r. member f (slots_named r)) rows s no_row there
-                    ∙ ap (λ (r : Row). some? (λ r. member f (slots_named r)) (take s rows) || member f (slots_named r)) is_row))
-                    (mark_then (get_or starts p 0) inv.marks m');
-              }
-
-      pub part_end : (s : ℕ) (c : List ℕ) → count ≤ s → PartInv rows (get_or starts p 0) c₀ c s → Marked (get_or starts p 0) (slot_covered rows) c₀ c
-      part_end s c h inv =
-          mark_same (get_or starts p 0) (λ f. ap (λ (l : List Row). slot_covered l f) (take_all s rows (omega (arith, is_count)))) inv.marks
+              mark_same (get_or starts p 0)
+              (λ f. sym (ap (λ (k : ℕ). some? (λ r. member f (slots_named r)) (take k rows)) (add-one s)
+              ∙ some_take (λ r. member f (slots_named r)) rows s no_row there
+              ∙ ap (λ (r : Row). some? (λ r. member f (slots_named r)) (take s rows) || member f (slots_named r)) is_row))
+              (mark_then (get_or starts p 0) inv m')
 
 -- ---- the parts of a set
 
 -- the first p parts are marked, and no entry behind them
 pub record CoverInv (b starts : List ℕ) (n : ℕ) (c₀ c : List ℕ) (p : ℕ) : Type 0 where
-  pub few : p ≤ n
   pub same : length c ≡ length c₀
   pub below : (q : ℕ) → q < p → get_or starts q 0 + length (get_or (set_in b) q []) ≤ get_or starts p 0
   pub done : (q s : ℕ) → q < p → s < length (get_or (set_in b) q []) → get_or c (get_or starts q 0 + s) 0 ≡ cond (slot_covered (get_or (set_in b) q []) s) 1 0
   pub blank : (g : ℕ) → get_or starts p 0 ≤ g → get_or c g 0 ≡ 0
 
 module _ {b offs starts : List ℕ} {n : ℕ} {c₀ : List ℕ} (bl : Blank b offs starts n c₀) where
-  pub cover_start : CoverInv b starts n c₀ c₀ 0
-  cover_start = record {
-    few = omega arith;
-    same = refl;
-    below = λ q h. absurd (omega (arith, h));
-    done = λ q s h l. absurd (omega (arith, h));
-    blank = λ g h. bl.zero g;
-  }
-
-  -- what `cover_part` wants
-  pub cover_again : (p : ℕ) (c : List ℕ) → CoverInv b starts n c₀ c p → Standing b offs starts n c
-  cover_again p c inv = record {
-    index = bl.stands.index;
-    fields = bl.stands.fields;
-    boundary = bl.stands.boundary;
-    room = omega (arith, inv.same, bl.stands.room);
-  }
-
   pub cover_turn : (p : ℕ) (c c' : List ℕ) → p < n → CoverInv b starts n c₀ c p → Marked (get_or starts p 0) (slot_covered (get_or (set_in b) p [])) c c'
       → CoverInv b starts n c₀ c' (p + 1)
   cover_turn p c c' h inv m = record {
-    few = omega arith;
     same = m.same ∙ inv.same;
     below = λ q l. go-below q l (decide (ltb q p));
     done = λ q s l k. go-done q s l k (decide (ltb q p));
@@ -204,12 +172,3 @@ module _ {b offs starts : List ℕ} {n : ℕ} {c₀ : List ℕ} (bl : Blank b of
           let z : slot_covered rows (g - k) ≡ false = none_behind rows (all_stand bl.stands p) (g - k) (omega (arith, next)) in
           let after : get_or c' (k + (g - k)) 0 ≡ get_or c (k + (g - k)) 0 = m.behind (g - k) ∙ ap (λ (x : Bool). cond x 1 (get_or c (k + (g - k)) 0)) z in
           rw e at after ∙ inv.blank g (omega (arith, next))
-
-  pub cover_end : (p : ℕ) (c : List ℕ) → n ≤ p → CoverInv b starts n c₀ c p → CoverFilled b starts c₀ c
-  cover_end p c h inv = record {
-    same = inv.same;
-    covers = record {
-      room = omega (arith, inv.same, bl.stands.room);
-      entry = λ q s l. inv.done q s (omega (arith, part_there bl.stands.index q s l)) l;
-    };
-  }

@@ -24,9 +24,8 @@ slots-words zero body h = absurd (h refl)
 slots-words (suc d) body h = rw (add-one (suc d))
 
 -- the first i slots are marked
-pub record RowInv (b : List ℕ) (at first : ℕ) (c₀ c : List ℕ) (i : ℕ) : Type 0 where
-  pub few : i ≤ length (slots_named (row_from b at))
-  pub marks : Marked first (λ s. member s (take i (slots_named (row_from b at)))) c₀ c
+abbrev pub RowInv : List ℕ → ℕ → ℕ → List ℕ → List ℕ → ℕ → Type 0
+RowInv b at first c₀ c i = Marked first (λ s. member s (take i (slots_named (row_from b at)))) c₀ c
 
 module _ {b : List ℕ} {at first dim : ℕ} {c₀ : List ℕ} (stands : RowStands b at first c₀) (e : dim ≡ u8_at b (at + 4)) where
   is_dim : (row_from b at).dim ≡ dim
@@ -42,7 +41,7 @@ module _ {b : List ℕ} {at first dim : ℕ} {c₀ : List ℕ} (stands : RowStan
 
   pub row_start : RowInv b at first c₀ c₀ 0
   unfolding member some?
-  row_start = record { few = omega arith; marks = mark_none first c₀ }
+  row_start = mark_none first c₀
 
   module _ (solid : dim ≡ 0 → ⊥) where
     named : slots_named (row_from b at) ≡ words (dim + 1) (row_from b at).body
@@ -69,15 +68,12 @@ module _ {b : List ℕ} {at first dim : ℕ} {c₀ : List ℕ} (stands : RowStan
         let fs = slots_named (row_from b at) in
         let is : get_or fs i 0 ≡ v = named_at i h ∙ sym f in
         let l : i < length fs = omega (arith, named_count) in
-        let there : first + v < length c = omega (arith, row_slot_there i v h f, inv.marks.same) in
-        record {
-          few = omega (arith, l);
-          marks = mark_same first
-              (λ s. sym (ap (λ (k : ℕ). some? (eqb s) (take k fs)) (add-one i) ∙ some_take (eqb s) fs i 0 l ∙ ap (λ (x : ℕ). some? (eqb s) (take i fs) || eqb s x) is))
-              (mark_then first inv.marks (mark_set first c v there));
-        }
+        let there : first + v < length c = omega (arith, row_slot_there i v h f, inv.same) in
+        mark_same first
+        (λ s. sym (ap (λ (k : ℕ). some? (eqb s) (take k fs)) (add-one i) ∙ some_take (eqb s) fs i 0 l ∙ ap (λ (x : ℕ). some? (eqb s) (take i fs) || eqb s x) is))
+        (mark_then first inv (mark_set first c v there))
 
     pub row_end : (i : ℕ) (c : List ℕ) → dim < i → RowInv b at first c₀ c i → Marked first (λ s. member s (slots_named (row_from b at))) c₀ c
     row_end i c h inv =
         let fs = slots_named (row_from b at) in
-        mark_same first (λ s. ap (member s) (take_all i fs (omega (arith, named_count)))) inv.marks
+        mark_same first (λ s. ap (member s) (take_all i fs (omega (arith, named_count)))) inv

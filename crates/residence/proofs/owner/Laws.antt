@@ -5,16 +5,18 @@ use native.Mathlib.Numerals.{add-one}
 use native.Mathlib.Omega.{arith}
 use mathlib.Core.Path.{◌≡◌, refl, sym, ap, ap₂, ◌∙◌, subst}
 use mathlib.Core.Bool.{Bool, true, false, not, cond}
-use mathlib.Core.Logic.{◌⊎◌, inl, inr}
+use mathlib.Core.Logic.{inl, inr}
 use mathlib.Core.List.{List, [], ◌∷◌}
-use lib.ListN.{length, get_or, take, set, length-set}
-use lib.Seq.{take_all, get_or-set_same, get_or-set_other}
-use lib.Dec.{T, eqb, ltb, ltb→lt, nltb→le}
+use lib.ListN.{length, get_or, take, drop, length-drop}
+use lib.Seq.{take_all, length-take-le}
+use lib.Dec.{T, eqb, ltb}
 use lib.Pow.{are_bytes}
+use mir.Val.{bool_byte}
 use Rattle.laws.specs.Lists.{In, keep}
-use Rattle.laws.proofs.Tests.{decide, bit_open}
+use Rattle.laws.proofs.Tests.{bit_open}
+use Rattle.field.proofs.Stores.{get_or_run}
 use Rattle.field.specs.Bytes.{u8_at, u64_at}
-use Rattle.part_set.specs.Masks.{parts_in, lowest_of, Rest}
+use Rattle.part_set.specs.Masks.{parts_in, lowest_of, Rest, Turn}
 use Rattle.part_set.proofs.MaskParts.{has_lt, parts_in_in, in_parts_in}
 use Rattle.part_set.proofs.Walk.{parts_none}
 use Rattle.paper.specs.Image.{Row, Set, no_row, row_at}
@@ -53,15 +55,6 @@ keep-take f (x ∷ xs) (suc k) d h = go (f x) (keep-take f xs k d (le_of_suc-le-
     go true e = omega (arith, e)
     go false e = e
 
-pub open_le : (cov : List ℕ) (first k : ℕ) → open_from cov first k ≤ k
-unfolding open_from
-open_le cov first zero = omega arith
-open_le cov first (suc k) = go (eqb (get_or cov (first + k) 0) 0) (open_le cov first k)
-  where
-    go : (t : Bool) → open_from cov first k ≤ k → open_from cov first k + cond t 1 0 ≤ suc k
-    go true h = omega arith
-    go false h = omega arith
-
 open_keep : {A : Type 0} (f : A → Bool) (xs : List A) (d : A) (cov : List ℕ) (first : ℕ) → ((i : ℕ) → i < length xs → eqb (get_or cov (first + i) 0) 0 ≡ f (get_or xs i d))
     → (k : ℕ) → k ≤ length xs → open_from cov first k ≡ length (keep f (take k xs))
 unfolding open_from keep
@@ -69,56 +62,42 @@ open_keep f xs d cov first h zero l = refl
 open_keep f xs d cov first h (suc k) l =
     ap₂ (λ (n : ℕ) (t : Bool). n + cond t 1 0) (open_keep f xs d cov first h k (omega arith)) (h k (omega arith)) ∙ sym (keep-take f xs k d (omega arith))
 
--- ---- loops
+-- ---- loops and chains
 
--- `count_open`
-pub record OpenInv (cov : List ℕ) (first count found i : ℕ) : Type 0 where
-  pub few : i ≤ count
+-- `count_open`: found so far are those among the first i entries
+pub record OpenInv (cov : List ℕ) (first found i : ℕ) : Type 0 where
+  pub few : found ≤ i
   pub is : found ≡ open_from cov first i
 
-pub open_start : (cov : List ℕ) (first count : ℕ) → OpenInv cov first count 0 0
+pub open_start : (cov : List ℕ) (first : ℕ) → OpenInv cov first 0 0
 unfolding open_from
-open_start cov first count = record { few = omega arith; is = refl }
+open_start cov first = record { few = omega arith; is = refl }
 
-pub open_turn : (cov : List ℕ) (first count found i v : ℕ) → OpenInv cov first count found i → i < count → v ≡ cond (eqb (get_or cov (first + i) 0) 0) 1 0 → OpenInv cov first count (found + v) (i + 1)
+pub open_turn : (cov : List ℕ) (first count found i v : ℕ) → first + count ≤ length cov → OpenInv cov first found i → i < length (take (first + count - first) (drop first cov))
+    → v ≡ bool_byte (eqb (get_or (take (first + count - first) (drop first cov)) i 0) 0) → OpenInv cov first (found + v) (i + 1)
 unfolding open_from
-open_turn cov first count found i v inv h e = record { few = omega arith; is = rw (add-one i) (ap₂ (λ (x y : ℕ). x + y) inv.is e) }
+open_turn cov first count found i v room inv h e =
+    let size : first + count - first ≡ count = omega arith in
+    let there : i < count = omega (arith, rw size at h, length-take-le count (drop first cov) (omega (arith, length-drop first cov))) in
+    let test : ℕ → Bool = λ x. eqb x 0 in
+    let bit : v ≡ cond (test (get_or cov (first + i) 0)) 1 0 = rw (size, get_or_run cov first count room i there) at e ∙ byte_bit (test (get_or cov (first + i) 0)) in
+    record {
+      few = omega (arith, inv.few, bit_few (eqb (get_or cov (first + i) 0) 0), bit);
+      is = rw (add-one i) (ap₂ (λ (x y : ℕ). x + y) inv.is bit);
+    }
+  where
+    byte_bit : (t : Bool) → bool_byte t ≡ cond t 1 0
+    byte_bit true = refl
+    byte_bit false = refl
 
-pub open_end : (cov : List ℕ) (first count found i : ℕ) → OpenInv cov first count found i → count ≤ i → found ≡ open_from cov first count
-open_end cov first count found i inv h = let e : i ≡ count = omega (arith, inv.few) in inv.is ∙ ap (open_from cov first) e
+    bit_few : (t : Bool) → cond t 1 0 ≤ 1
+    bit_few true = omega arith
+    bit_few false = omega arith
 
 -- `count_objects`
 pub record CountInv (starts cov : List ℕ) (n : ℕ) (counts₀ counts : List ℕ) (p : ℕ) : Type 0 where
-  pub few : p ≤ n
   pub same : length counts ≡ length counts₀
   pub entry : (q : ℕ) → q < p → get_or counts q 0 ≡ open_from cov (get_or starts q 0) (get_or starts (q + 1) 0 - get_or starts q 0)
-
-module _ {starts cov : List ℕ} {n : ℕ} {counts₀ : List ℕ} (room : RowsCountable starts cov n counts₀) where
-  pub count_start : CountInv starts cov n counts₀ counts₀ 0
-  count_start = record { few = omega arith; same = refl; entry = λ q h. absurd (omega (arith, h)) }
-
-  module _ (p first count : ℕ) (counts : List ℕ) (h : p < n) (inv : CountInv starts cov n counts₀ counts p) (ef : first ≡ get_or starts p 0 + 0)
-      (ec : count ≡ get_or starts (p + 1) 0 - get_or starts p 0) where
-    -- what `count_open` wants
-    pub count_asked : first + count ≤ length cov
-    count_asked = omega (arith, ef, ec, room.ascend p h, room.inside p h)
-
-    pub count_turn : (v : ℕ) → v ≡ open_from cov first count → CountInv starts cov n counts₀ (set counts p v) (p + 1)
-    count_turn v e = record {
-      few = omega arith;
-      same = length-set counts p v ∙ inv.same;
-      entry = λ q l. go q l (decide (ltb q p));
-    }
-      where
-        go : (q : ℕ) → q < p + 1 → T (ltb q p) ⊎ T (not (ltb q p)) → get_or (set counts p v) q 0 ≡ open_from cov (get_or starts q 0) (get_or starts (q + 1) 0 - get_or starts q 0)
-        go q l (inl t) = let k = ltb→lt q p t in get_or-set_other counts p q v 0 (λ e. omega (arith, e)) ∙ inv.entry q k
-        go q l (inr t) =
-            let is : q ≡ p = omega (arith, nltb→le q p t) in
-            let is-first : first ≡ get_or starts p 0 = omega (arith, ef) in
-            rw is (get_or-set_same counts p v 0 (omega (arith, inv.same, room.counts_room, room.few)) ∙ e ∙ ap₂ (open_from cov) is-first ec)
-
-  pub count_end : (p : ℕ) (counts : List ℕ) → n ≤ p → CountInv starts cov n counts₀ counts p → OpenCounted starts cov n counts₀ counts
-  count_end p counts h inv = record { same = inv.same; entry = λ q l. inv.entry q (omega arith) }
 
 -- ---- in the index of an image
 
@@ -158,21 +137,21 @@ pub record OwnerInv (counts : List ℕ) (m best left : ℕ) : Type 0 where
   pub small : best < 64
   pub is : poorest (λ q. get_or counts q 0) best (parts_in left) ≡ poorest_of counts (parts_in m)
 
-pub owner_start : (counts : List ℕ) (m r best : ℕ) → Rest m r → best ≡ lowest_of m → best < 64 → OwnerInv counts m best r
+pub owner_start : {counts : List ℕ} {m r best left : ℕ} → Rest m r → best ≡ lowest_of m → best < 64 → left ≡ r → OwnerInv counts m best left
 unfolding poorest_of
-owner_start counts m r best w e h = record { small = h; is = rw (w.parts, e) }
+owner_start w e h is = record { small = h; is = rw (is, w.parts, e) }
 
-pub owner_turn : (counts : List ℕ) (m best left r q v : ℕ) → OwnerInv counts m best left → Rest left r → q ≡ lowest_of left → q < 64
+pub owner_turn : {counts : List ℕ} {m best left r q v : ℕ} → OwnerInv counts m best left → Turn left q r
     → v ≡ cond (ltb (get_or counts q 0) (get_or counts best 0)) q best → OwnerInv counts m v r
 unfolding poorest
-owner_turn counts m best left r q v inv w e h is = record {
+owner_turn {counts} {m} {best} {left} {r} {q} {v} inv turn is = record {
   small = rw is (go (ltb (get_or counts q 0) (get_or counts best 0)));
-  is = ap (λ (x : ℕ). poorest (λ q. get_or counts q 0) x (parts_in r)) (is ∙ ap (λ (x : ℕ). cond (ltb (get_or counts x 0) (get_or counts best 0)) x best) e)
-      ∙ sym (ap (poorest (λ q. get_or counts q 0) best) w.parts) ∙ inv.is;
+  is = ap (λ (x : ℕ). poorest (λ q. get_or counts q 0) x (parts_in r)) is
+      ∙ sym (ap (poorest (λ q. get_or counts q 0) best) turn.parts) ∙ inv.is;
 }
   where
     go : (t : Bool) → cond t q best < 64
-    go true = h
+    go true = turn.below
     go false = inv.small
 
 pub owner_end : (counts : List ℕ) (m best left : ℕ) → OwnerInv counts m best left → left ≡ 0 → (best ≡ poorest_of counts (parts_in m)) × (best < 64)
@@ -191,7 +170,7 @@ counted_owner {b} {counts} c m h =
 
 -- ---- the judgement of a row
 
-module _ {b offs starts counts : List ℕ} (index : Indexed b offs starts (length (set_in b))) (y : T (are_bytes b)) (pass : PassedAhead Owner (set_in b)) (counted : Counted b counts)
+module _ {b offs starts counts : List ℕ} {n : ℕ} (index : Indexed b offs starts n) (y : T (are_bytes b)) (pass : PassedAhead Owner (set_in b)) (counted : Counted b counts)
     (p s : ℕ) (h : s < length (get_or (set_in b) p [])) where
   abbrev S : Set
   S = set_in b

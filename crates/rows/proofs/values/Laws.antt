@@ -3,13 +3,11 @@ use Prim.Native.Nat.{ℕ, zero, suc, ◌^◌, ◌<◌}
 use mathlib.Core.Path.{◌≡◌, refl, sym, ap₂, ◌∙◌, subst}
 use mathlib.Core.Bool.{true, ◌&&◌}
 use lib.Dec.{eqb}
-use lib.Ieee.{binary64, of_bits}
 use Rattle.laws.proofs.Tests.{T_true}
 use Rattle.field.specs.Bytes.{finite}
 use Rattle.field.proofs.Finite.{finite_plain}
 use Rattle.paper.specs.Sound.{value_fitting}
 use Rattle.paper.specs.declared.Value.{Value}
-use Rattle.paper.specs.declared.Value.TheVariants as value
 use Rattle.paper.specs.Answers.{value_of, is_same_value}
 use Rattle.paper.proofs.Injective.{value_same}
 use Rattle.rows.specs.Values.{ValueStands, Plain}
@@ -20,11 +18,6 @@ unfolding value_fitting
 real_finite zero v s n w = absurd (n refl)
 real_finite (suc zero) v s n w = absurd (w refl)
 real_finite (suc (suc k)) v s n w = T_true (finite v) s.fits
-
-pub real_value : (k v : ℕ) → (k ≡ 0 → ⊥) → (k ≡ 1 → ⊥) → value.Real (of_bits binary64 v) ≡ value_of k v
-real_value zero v n w = absurd (n refl)
-real_value (suc zero) v n w = absurd (w refl)
-real_value (suc (suc k)) v n w = refl
 
 value_plain : (k v : ℕ) → ValueStands k v → Plain (value_of k v)
 unfolding value_fitting

@@ -1,18 +1,10 @@
 -- `sound::first_fault`: what is left of the parts and rows gives the answer, in both loops. Assumes nothing.
-use Prim.Native.Nat.{◌-◌}
-use Rattle.index.specs.Index.{set_in}
-use Rattle.sound.specs.Faults.{tested}
+use Rattle.rows.specs.Tables.{set_of}
 use Rattle.sound.proofs.Loops.{AtPart, AtSlot}
 use Rattle.sound.proofs.first_fault.Given as goal
 
 abbrev pub invariant-loop-s : goal.invariant-loop-s
-invariant-loop-s l = AtSlot (tested l.test (set_in l.image)) (set_in l.image) l.p l.s l.fault
-
-abbrev pub decreases-loop-s : goal.decreases-loop-s
-decreases-loop-s l = l.rows - l.s
+invariant-loop-s g l = AtSlot (goal.F-post g l.passes) (set_of l.tables) l.p l.s l.fault
 
 abbrev pub invariant-parts : goal.invariant-parts
-invariant-parts l = AtPart (tested l.test (set_in l.image)) (set_in l.image) l.p l.fault
-
-abbrev pub decreases-parts : goal.decreases-parts
-decreases-parts l = l.n - l.p
+invariant-parts g l = AtPart (goal.F-post g l.passes) (set_of l.tables) l.p l.fault

@@ -1,29 +1,25 @@
 -- `sound::home_rules`: each table is filled before the rule that reads it. Assumes nothing.
+use mathlib.Core.Path.{refl}
 use native.Mathlib.Omega.{arith}
-use Rattle.residence.proofs.owner.Laws.{countable}
-use Rattle.paper.specs.declared.Rule.TheVariants.{Residence}
-use Rattle.sound.proofs.Readiness.{for_residence, for_cover}
-use Rattle.sound.proofs.Behind.{homes_stop, owner_ready, homes_judged}
+use Rattle.std.proofs.Common.{rules}
+use Rattle.field.proofs.Reading.{bytes_all}
+use Rattle.residence.proofs.owner.Laws.{countable, open_objects}
+use Rattle.paper.specs.declared.Rule.TheVariants.{Residence, Owner}
+use Rattle.rows.proofs.Copied.{index_own}
+use Rattle.sound.proofs.Stages.{next}
 use Rattle.sound.proofs.home_rules.Goals as goal
 
-pub cover-requires : goal.cover-requires
-cover-requires c = for_cover c.requires
-
-pub judge_rows-residence-requires : goal.judge_rows-residence-requires
-judge_rows-residence-requires c =
-    let ahead = c.requires in (for_residence ahead.tables ahead.passed c.cover.ensures.covers)
-
-pub returns-in-Stop : goal.returns-in-Stop
-returns-in-Stop c = homes_stop _ _ Residence c.judge_rows-residence.ensures _ c.in-Stop.is
-
 pub count_objects-requires : goal.count_objects-requires
-count_objects-requires c =
-    let ahead = c.requires in countable ahead.tables.indexed c.cover.ensures.covers ahead.counts_room
+count_objects-requires c = countable c.args.tables.now.indexed c.cover.ensures.covers (omega arith)
 
-pub judge_rows-requires : goal.judge_rows-requires
-judge_rows-requires c =
-    (owner_ready c.requires c.cover.ensures c.judge_rows-residence.ensures c.in-Go.is (λ i. omega (arith, c.shared_slice_known-1.given i)) c.count_objects.ensures)
-
-pub returns : goal.returns
-returns c =
-    homes_judged c.requires c.cover.ensures c.judge_rows-residence.ensures c.in-Go.is (λ i. omega (arith, c.shared_slice_known-1.given i)) c.count_objects.ensures _ c.judge_rows.ensures
+pub judge-requires-2 : goal.judge-requires-2
+judge-requires-2 c =
+    let tables = c.args.tables.now in
+    let passed = next _ Residence Owner refl c.in_ok-judge.ensures in
+    let counted = open_objects tables.indexed (bytes_all _ tables.bytes) passed c.cover.ensures.covers (omega arith) c.count_objects.ensures in
+    let own = index_own tables.indexed in
+    record {
+      passed = passed;
+      asked = λ part slot due. let there = due.there in search rules;
+      told = λ part slot r there said. search rules;
+    }

@@ -1,7 +1,7 @@
 -- What the check leaves is what the writers of its answers want, and their texts are the text of its outcome. Assumes nothing.
 use Prim.Native.Nat.{ℕ, ◌≤◌}
 use native.Mathlib.Omega.{arith}
-use mathlib.Core.Path.{◌≡◌, sym, ap, ◌∙◌, subst}
+use mathlib.Core.Path.{◌≡◌, sym, ap, ◌∙◌}
 use mathlib.Core.List.{List}
 use lib.ListN.{length}
 use lib.Dec.{T}
@@ -9,10 +9,9 @@ use lib.Pow.{are_bytes}
 use Rattle.paper.specs.Outcome.{Place, refused, accepted}
 use Rattle.paper.specs.Sound.{sound_of}
 use Rattle.paper.specs.Listing.{answer_text}
-use Rattle.index.specs.Index.{set_in, Indexed}
-use Rattle.paper.specs.declared.Rule.TheVariants.{Fields}
+use Rattle.index.specs.Index.{set_in}
 use Rattle.sound.specs.Stages.{SoundIndex}
-use Rattle.text.specs.Lines.{refusal_line, Listable}
+use Rattle.text.specs.Lines.{refusal_line}
 use Rattle.decimal.specs.Writing.{Room}
 use Rattle.text.proofs.answers.Sizes.{refusal-length, refusal-text, answer-length}
 
@@ -27,12 +26,6 @@ refused_text b {k} {p} e = sym (refusal-text k p) ∙ ap answer_text (sym e)
 -- ---- a sound image
 
 module _ {b offs starts : List ℕ} {n : ℕ} (image : SoundIndex b offs starts n) where
-  pub listable : Listable b offs starts
-  listable = record { index = subst (Indexed b offs starts) (sym image.indexed.count) image.indexed; fits = image.passed Fields }
-
-  pub parts : n ≡ length (set_in b)
-  parts = sym image.indexed.count
-
   pub sound_text : answer_text (accepted (set_in b)) ≡ answer_text (sound_of b)
   sound_text = ap answer_text (sym image.sound)
 

@@ -20,6 +20,10 @@ pub fields_next : (f : List ℕ) (fs : List (List ℕ)) → Splits (spaced (f �
 unfolding spaced flat
 fields_next f fs = record { is = append_assoc (32 ∷ f) (spaced fs) (10 ∷ []) }
 
+-- the fields of a line and its line feed
+pub fields_feed : (fs : List (List ℕ)) → Splits (spaced fs ++ (10 ∷ [])) (spaced fs) (10 ∷ [])
+fields_feed fs = record { is = refl }
+
 pub fields_none : spaced [] ++ (10 ∷ []) ≡ 10 ∷ []
 unfolding spaced flat
 fields_none = refl

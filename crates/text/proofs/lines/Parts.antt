@@ -1,7 +1,10 @@
 -- A line in parts: its first numbers, its remote copies and the line feed. Assumes nothing.
-use Prim.Native.Nat.{ℕ}
+use Prim.Native.Nat.{ℕ, suc, ◌+◌, ◌≤◌, ◌<◌}
+use native.Mathlib.Numerals.{add-one}
 use mathlib.Core.Path.{◌≡◌, refl, sym, ap, ◌∙◌}
 use mathlib.Core.List.{List, [], ◌∷◌, ◌++◌, map, append_assoc, append-nil}
+use lib.ListN.{length, get_or, drop, drop_of_length-le}
+use lib.Seq.{drop-cons}
 use Rattle.laws.specs.Lists.{flat, zip}
 use Rattle.part_set.specs.Masks.{others}
 use Rattle.paper.specs.Image.{Row}
@@ -23,9 +26,12 @@ pub spaced_next : (f : List ℕ) (fs : List (List ℕ)) → Splits (spaced (f �
 unfolding spaced flat
 spaced_next f fs = record { is = refl }
 
-pub spaced_last : (f : List ℕ) → spaced (f ∷ []) ≡ 32 ∷ f
-unfolding spaced flat
-spaced_last f = append-nil (32 ∷ f)
+-- numbers, from one of them on
+pub numbers_after : (ns : List ℕ) (i : ℕ) → i < length ns → Splits (spaced (map decimal (drop i ns))) (32 ∷ decimal (get_or ns i 0)) (spaced (map decimal (drop (i + 1) ns)))
+numbers_after ns i h = rw (add-one i, drop-cons ns i 0) (spaced_next (decimal (get_or ns i 0)) (map decimal (drop (suc i) ns)))
+
+pub numbers_end : (ns : List ℕ) (i : ℕ) → length ns ≤ i → spaced (map decimal (drop i ns)) ≡ []
+numbers_end ns i h = rw (drop_of_length-le ns {i = i} h) spaced_none
 
 spaced-append : (fs gs : List (List ℕ)) → spaced (fs ++ gs) ≡ spaced fs ++ spaced gs
 unfolding spaced flat

@@ -9,11 +9,14 @@ use Rattle.field.specs.Bytes.{u8_at, u32_at, u64_at}
 use Rattle.part_set.specs.Masks.{has}
 use Rattle.paper.specs.Image.{Row, Set, row_length_of, row_at}
 use Rattle.paper.specs.Listing.{row_line, part_lines, set_line_list}
-use Rattle.index.specs.Index.{row_from, set_in}
+use Rattle.index.specs.Index.{row_from, set_in, Indexed}
+use Rattle.paper.specs.declared.Rule.TheVariants.{Fields}
+use Rattle.demands.specs.Passed.{Passed}
+use Rattle.rows.proofs.Copied.{index_own}
 use Rattle.index.proofs.RowFields.{row_number, row_dim, row_owner, row_mask}
 use Rattle.rows.proofs.Laws.{part-rows, part_there, row_there}
 use Rattle.copies.proofs.Placed.{row_fits}
-use Rattle.text.specs.Lines.{numbers_text, RowThere, Listable}
+use Rattle.text.specs.Lines.{numbers_text, RowThere}
 use Rattle.decimal.proofs.Runs.{texts_from}
 use Rattle.text.proofs.lines.Parts.{row_numbers}
 
@@ -44,29 +47,32 @@ pub set_lines : (S : Set) → texts_from (part_text S) (length S) 0 ≡ set_line
 unfolding set_line_list texts_from
 set_lines S = refl
 
-module _ {b offs starts : List ℕ} (listable : Listable b offs starts) where
+module _ {b offs starts : List ℕ} {n : ℕ} (index : Indexed b offs starts n) (fits : Passed Fields (set_in b)) where
+  own : Indexed b offs starts (length (set_in b))
+  own = index_own index
+
   pub rows_asked : (p : ℕ) → p < length (set_in b) → (p + 1 < length starts) × (get_or starts p 0 ≤ get_or starts (p + 1) 0)
   rows_asked p h =
-      (omega (arith, listable.index.few, listable.index.starts_room), omega (arith, listable.index.next p h))
+      (omega (arith, own.few, own.starts_room), omega (arith, own.next p h))
 
   pub rows_are : (p : ℕ) → p < length (set_in b) → {rows : ℕ} → rows ≡ get_or starts (p + 1) 0 - get_or starts p 0 → rows ≡ length (get_or (set_in b) p [])
-  rows_are p h e = e ∙ part-rows listable.index p h
+  rows_are p h e = e ∙ part-rows own p h
 
   -- row s of part p
   module _ (p s : ℕ) (h : s < length (get_or (set_in b) p [])) where
     pub offset_asked : (p < length starts) × (get_or starts p 0 + s < length offs)
     offset_asked =
-        (omega (arith, part_there listable.index p s h, listable.index.few, listable.index.starts_room), omega (arith, row_there listable.index p s h, listable.index.offs_room))
+        (omega (arith, part_there own p s h, own.few, own.starts_room), omega (arith, row_there own p s h, own.offs_room))
 
     module _ {o : ℕ} (e : o ≡ get_or offs (get_or starts p 0 + s) 0) where
       row_is : row_at (set_in b) p s ≡ row_from b o
-      row_is = listable.index.row p s h ∙ ap (row_from b) (sym e)
+      row_is = own.row p s h ∙ ap (row_from b) (sym e)
 
       pub row_stands : RowThere b o p
       row_stands = record {
-        room = omega (arith, e, listable.index.there p s h, ap (λ (r : Row). row_length_of r.mask) row_is);
-        part = omega (arith, part_there listable.index p s h, listable.index.few);
-        own = ap (λ (r : Row). has r.mask p) (sym row_is) ∙ T_true (has (row_at (set_in b) p s).mask p) (row_fits (set_in b) listable.fits p s h).own;
+        room = omega (arith, e, own.there p s h, ap (λ (r : Row). row_length_of r.mask) row_is);
+        part = omega (arith, part_there own p s h, own.few);
+        own = ap (λ (r : Row). has r.mask p) (sym row_is) ∙ T_true (has (row_at (set_in b) p s).mask p) (row_fits (set_in b) fits p s h).own;
       }
 
       pub row-text : row_text (set_in b) p s ≡ row_line p s (row_from b o)

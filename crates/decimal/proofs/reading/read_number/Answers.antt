@@ -1,25 +1,23 @@
 -- `reading::read_number` meets its contract: what is left to read decides as the whole text does. Assumes nothing.
 use native.Mathlib.Omega.{arith}
-use Rattle.decimal.proofs.Digits.{number_empty, reading_none, reading_more, stops_low, stops_high, stops_large, reading_all}
+use Rattle.std.proofs.Common.{rules}
+use Rattle.decimal.proofs.Digits.{number_empty, reading_none, reading_more, stops_other, stops_large, reading_all}
 use Rattle.decimal.proofs.reading.read_number.Goals as goal
 
-pub returns-then-text-eq0 : goal.returns-then-text-eq0
-returns-then-text-eq0 c = number_empty _ c.if-text-eq0.true
+pub returns-then-is_empty : goal.returns-then-is_empty
+returns-then-is_empty c = number_empty _ (search rules)
 
-pub loop-i-init : goal.loop-i-init
-loop-i-init c = reading_none _ c.if-text-eq0.false
+pub loop-digit-init : goal.loop-digit-init
+loop-digit-init c = reading_none _ (search rules)
 
-pub returns-then-digit-lt48 : goal.returns-then-digit-lt48
-returns-then-digit-lt48 c = stops_low _ _ _ c.loop-i.invariant c.loop-i-test.true c.if-digit-lt48.true
+pub returns-then-not-is_ascii_digit : goal.returns-then-not-is_ascii_digit
+returns-then-not-is_ascii_digit c = stops_other _ _ _ c.loop-digit.invariant c.loop-digit-test.true c.if-not-is_ascii_digit.ensures.cases
 
-pub returns-then-digit-gt57 : goal.returns-then-digit-gt57
-returns-then-digit-gt57 c = stops_high _ _ _ c.loop-i.invariant c.loop-i-test.true c.if-digit-gt57.true
+pub returns-then-number-from : goal.returns-then-number-from
+returns-then-number-from c = stops_large _ _ _ c.loop-digit.invariant c.loop-digit-test.true (omega (arith, c.if-number-from.true, c.from.ensures, c.from-in-loop-digit.ensures))
 
-pub returns-then-number-gt4294967295 : goal.returns-then-number-gt4294967295
-returns-then-number-gt4294967295 c = stops_large _ _ _ c.loop-i.invariant c.loop-i-test.true c.if-number-gt4294967295.true
-
-pub loop-i-preserved : goal.loop-i-preserved
-loop-i-preserved c = reading_more _ _ _ c.loop-i.invariant c.loop-i-test.true c.if-digit-lt48.false c.if-digit-gt57.false (omega arith)
+pub loop-digit-preserved : goal.loop-digit-preserved
+loop-digit-preserved c = rw c.from.ensures (reading_more _ _ _ c.loop-digit.invariant c.loop-digit-test.true c.if-not-is_ascii_digit.ensures.cases.0 c.if-not-is_ascii_digit.ensures.cases.1 (omega (arith, c.if-number-from.false, c.from.ensures, c.from-in-loop-digit.ensures)))
 
 pub returns : goal.returns
-returns c = reading_all _ _ _ c.loop-i.invariant c.loop-i-test.false
+returns c = reading_all _ _ _ c.loop-digit.invariant c.loop-digit-test.false

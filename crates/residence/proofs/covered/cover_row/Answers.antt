@@ -11,25 +11,21 @@ loop-i-init c = row_start c.requires c.byte_at-dim.ensures.0
 
 pub word_at-slot-requires : goal.word_at-slot-requires
 word_at-slot-requires c =
-    row_slot_read c.requires c.byte_at-dim.ensures.0 c.loop-i.i c.loop-i-test.true
+    row_slot_read c.requires c.byte_at-dim.ensures.0 c.loop-i.i (omega arith)
 
 pub overflow_add-covered : goal.overflow_add-covered
 overflow_add-covered c =
-    let l = row_slot_there c.requires c.byte_at-dim.ensures.0 c.if-dim-eq0.false c.loop-i.i _ c.loop-i-test.true c.word_at-slot.ensures in
-    omega (arith, l, c.loop-i.invariant.marks.same)
+    let l = row_slot_there c.requires c.byte_at-dim.ensures.0 c.if-dim-eq0.false c.loop-i.i _ (omega arith) c.word_at-slot.ensures in
+    omega (arith, l, c.loop-i.invariant.same)
 
 pub bounds-covered-first : goal.bounds-covered-first
 bounds-covered-first c =
-    let l = row_slot_there c.requires c.byte_at-dim.ensures.0 c.if-dim-eq0.false c.loop-i.i _ c.loop-i-test.true c.word_at-slot.ensures in
-    omega (arith, l, c.loop-i.invariant.marks.same)
+    let l = row_slot_there c.requires c.byte_at-dim.ensures.0 c.if-dim-eq0.false c.loop-i.i _ (omega arith) c.word_at-slot.ensures in
+    omega (arith, l, c.loop-i.invariant.same)
 
 pub loop-i-preserved : goal.loop-i-preserved
 loop-i-preserved c =
-    row_turn c.requires c.byte_at-dim.ensures.0 c.if-dim-eq0.false _ _ _ c.loop-i-test.true c.word_at-slot.ensures c.loop-i.invariant
-
-pub shape_of-covered : goal.shape_of-covered
-shape_of-covered c = c.loop-i.invariant.marks.same
+    row_turn c.requires c.byte_at-dim.ensures.0 c.if-dim-eq0.false _ _ _ (omega arith) c.word_at-slot.ensures c.loop-i.invariant
 
 pub returns : goal.returns
-returns c =
-    row_end c.requires c.byte_at-dim.ensures.0 c.if-dim-eq0.false _ _ c.loop-i-test.false c.loop-i.invariant
+returns c = row_end c.requires c.byte_at-dim.ensures.0 c.if-dim-eq0.false _ _ (omega arith) c.loop-i.invariant

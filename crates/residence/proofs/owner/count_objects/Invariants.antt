@@ -1,10 +1,6 @@
 -- `residence::owner::count_objects`: the parts so far are counted. Assumes nothing.
-use Prim.Native.Nat.{◌-◌}
 use Rattle.residence.proofs.owner.Laws.{CountInv}
 use Rattle.residence.proofs.owner.count_objects.Given as goal
 
 abbrev pub invariant-loop-p : goal.invariant-loop-p
 invariant-loop-p l = CountInv l.starts l.covered l.n l.initial.counts l.counts l.p
-
-abbrev pub decreases-loop-p : goal.decreases-loop-p
-decreases-loop-p l = l.n - l.p

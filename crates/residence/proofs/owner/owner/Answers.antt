@@ -5,27 +5,22 @@ use Rattle.field.proofs.Reading.{bytes_all}
 use Rattle.residence.proofs.owner.Laws.{owner_asked, owner_judged}
 use Rattle.residence.proofs.owner.owner.Goals as goal
 
-pub offset_of-at-requires : goal.offset_of-at-requires
-offset_of-at-requires c = let all = row_asked c.requires.indexed _ _ c.requires.slot_in_bounds in record { part_in_bounds = all.0; slot_in_bounds = all.1 }
-
-pub overflow_add-at : goal.overflow_add-at
-overflow_add-at c = omega (arith, row_read c.requires.indexed _ _ _ c.requires.slot_in_bounds c.offset_of-at.ensures)
+pub offset_of-at-requires-clause-slot_in_bounds : goal.offset_of-at-requires-clause-slot_in_bounds
+offset_of-at-requires-clause-slot_in_bounds c = (row_asked c.args.tables.now.indexed _ _ c.requires.slot_in_bounds).1
 
 pub long_at-mask-requires : goal.long_at-mask-requires
-long_at-mask-requires c = omega (arith, row_read c.requires.indexed _ _ _ c.requires.slot_in_bounds c.offset_of-at.ensures)
-
-pub overflow_add-at-2 : goal.overflow_add-at-2
-overflow_add-at-2 c = omega (arith, row_read c.requires.indexed _ _ _ c.requires.slot_in_bounds c.offset_of-at.ensures)
+long_at-mask-requires c = omega (arith, row_read c.args.tables.now.indexed _ _ _ c.requires.slot_in_bounds c.offset_of-at.ensures)
 
 pub byte_at-requires : goal.byte_at-requires
-byte_at-requires c = omega (arith, row_read c.requires.indexed _ _ _ c.requires.slot_in_bounds c.offset_of-at.ensures)
+byte_at-requires c = omega (arith, row_read c.args.tables.now.indexed _ _ _ c.requires.slot_in_bounds c.offset_of-at.ensures)
 
-pub owner_of-requires : goal.owner_of-requires
-owner_of-requires c =
-    let a = c.args in
-    let all = owner_asked c.requires.indexed (bytes_all a.image.now (λ i. omega (arith, c.shared_slice_known-1.given i))) c.requires.passed_ahead c.requires.counted a.part.0 a.slot.0 c.requires.slot_in_bounds _ _ c.offset_of-at.ensures c.long_at-mask.ensures in record { mask_nonzero = all.0; in_bounds = all.1 }
+pub owner_of-requires-clause-mask_nonzero : goal.owner_of-requires-clause-mask_nonzero
+owner_of-requires-clause-mask_nonzero c =
+    let t = c.args.tables.now in
+    (owner_asked t.indexed (bytes_all _ t.bytes) c.requires.passed_ahead c.requires.counted _ _ c.requires.slot_in_bounds _ _ c.offset_of-at.ensures c.long_at-mask.ensures).0
 
 pub returns : goal.returns
 returns c =
-    let a = c.args in
-    owner_judged c.requires.indexed (bytes_all a.image.now (λ i. omega (arith, c.shared_slice_known-1.given i))) c.requires.passed_ahead c.requires.counted a.part.0 a.slot.0 c.requires.slot_in_bounds _ _ c.offset_of-at.ensures c.long_at-mask.ensures _ _ c.byte_at.ensures.0 c.owner_of.ensures.0
+    let t = c.args.tables.now in
+    owner_judged t.indexed (bytes_all _ t.bytes) c.requires.passed_ahead c.requires.counted _ _ c.requires.slot_in_bounds _ _ c.offset_of-at.ensures c.long_at-mask.ensures
+    _ _ c.byte_at.ensures.0 c.owner_of.ensures.0

@@ -4,10 +4,11 @@ use mathlib.Core.Path.{◌∙◌}
 use Rattle.rows.proofs.values.Laws.{plain, values_compared}
 use Rattle.rows.proofs.values.one_value.Goals as goal
 
-pub same_value-requires : goal.same_value-requires
-same_value-requires c =
-    let a = c.args in
-    record { a_plain = plain a.kind a.bits _ c.requires.first_stands c.value_of.ensures; b_plain = plain a.kind2 a.bits2 _ c.requires.second_stands c.value_of-2.ensures }
+pub same_value-requires-clause-a_plain : goal.same_value-requires-clause-a_plain
+same_value-requires-clause-a_plain c = plain c.args.kind c.args.bits _ c.requires.first_stands c.value_of.ensures
+
+pub same_value-requires-clause-b_plain : goal.same_value-requires-clause-b_plain
+same_value-requires-clause-b_plain c = plain c.args.kind2 c.args.bits2 _ c.requires.second_stands c.value_of-2.ensures
 
 pub returns : goal.returns
 returns c =

@@ -6,14 +6,10 @@ use Rattle.text.proofs.answers.Words.{sound_split}
 use Rattle.text.proofs.answers.put_sound.Goals as goal
 
 pub put_head-rows-requires : goal.put_head-rows-requires
-put_head-rows-requires c = room_as (ap head_line (sym c.requires.n_value)) (room_first (sound_split _) c.requires.room)
+put_head-rows-requires c = room_as (ap head_line c.args.tables.now.indexed.count) (room_first (sound_split _) c.requires.room)
 
-pub put_set-requires : goal.put_set-requires
-put_set-requires c =
-    let head = wrote_as (ap head_line c.requires.n_value) c.put_head-rows.ensures in
-    record { listable = c.requires.listable; n_value = c.requires.n_value; room = room_next (sound_split _) c.requires.room head }
+pub put_set-requires-clause-room : goal.put_set-requires-clause-room
+put_set-requires-clause-room c = room_next (sound_split _) c.requires.room (wrote_as (ap head_line (sym c.args.tables.now.indexed.count)) c.put_head-rows.ensures)
 
 pub returns : goal.returns
-returns c =
-    let head = wrote_as (ap head_line c.requires.n_value) c.put_head-rows.ensures in
-    wrote_both (sound_split _) head c.put_set.ensures
+returns c = wrote_both (sound_split _) (wrote_as (ap head_line (sym c.args.tables.now.indexed.count)) c.put_head-rows.ensures) c.put_set.ensures

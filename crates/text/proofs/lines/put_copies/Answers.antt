@@ -1,43 +1,38 @@
 -- `text::lines::put_copies` meets its contract: the copies in the parts that are left give all copies. Assumes nothing.
 use native.Mathlib.Omega.{arith}
+use mathlib.Core.Path.{◌≡◌}
+use Rattle.std.proofs.Common.{rules}
+use Rattle.part_set.specs.Masks.{parts_in, others}
 use Rattle.text.proofs.lines.Copies.{head_room, without_asked, copies_start, copies-room, copies-done, word_there, copy_room, copies-more}
 use Rattle.text.proofs.lines.put_copies.Goals as goal
-
-pub overflow_add-row : goal.overflow_add-row
-overflow_add-row c = omega (arith, head_room _ c.requires.row_there)
 
 pub long_at-mask-requires : goal.long_at-mask-requires
 long_at-mask-requires c = omega (arith, head_room _ c.requires.row_there)
 
-pub without-left-requires : goal.without-left-requires
-without-left-requires c = without_asked _ c.requires.row_there c.long_at-mask.ensures
+pub without-requires : goal.without-requires
+without-requires c = without_asked _ c.requires.row_there c.long_at-mask.ensures
 
-pub overflow_add-from : goal.overflow_add-from
-overflow_add-from c = omega (arith, head_room _ c.requires.row_there)
-
-pub loop-left-init : goal.loop-left-init
-loop-left-init c = copies_start _ c.requires.row_there _ c.long_at-mask.ensures c.without-left.ensures.1
+pub loop-other-init : goal.loop-other-init
+loop-other-init c =
+    let held : parts_in c.into_iter-other-iterator.result ≡ others c.long_at-mask.result c.args.own.0 = search rules in
+    copies_start _ c.requires.row_there _ c.long_at-mask.ensures held
 
 pub word_at-requires : goal.word_at-requires
-word_at-requires c = word_there _ c.loop-left.invariant c.rest-left.ensures
-
-pub overflow_add-from-in-loop-left : goal.overflow_add-from-in-loop-left
-overflow_add-from-in-loop-left c = omega (arith, word_there _ c.loop-left.invariant c.rest-left.ensures)
+word_at-requires c = word_there _ c.loop-other.invariant c.in-Some.ensures.steps.rest
 
 pub put_copy-to-requires : goal.put_copy-to-requires
 put_copy-to-requires c =
-    copy_room _ c.loop-left.invariant c.rest-left.ensures c.lowest.ensures.0 c.word_at.ensures
-    (copies-room _ c.requires.row_there _ c.long_at-mask.ensures c.without-left.ensures.1 c.requires.room)
+    let turn = c.in-Some.ensures.steps in
+    let held : parts_in c.into_iter-other-iterator.result ≡ others c.long_at-mask.result c.args.own.0 = search rules in
+    copy_room _ c.loop-other.invariant turn.rest turn.least c.word_at.ensures
+    (copies-room _ c.requires.row_there _ c.long_at-mask.ensures held c.requires.room)
 
-pub loop-left-smaller : goal.loop-left-smaller
-loop-left-smaller c = c.rest-left.ensures.less
-
-pub loop-left-preserved : goal.loop-left-preserved
-loop-left-preserved c =
-    copies-more _ c.loop-left.invariant c.rest-left.ensures c.lowest.ensures.0 c.word_at.ensures c.put_copy-to.ensures
-
-pub shape_of-out : goal.shape_of-out
-shape_of-out c = c.loop-left.invariant.left.same
+pub loop-other-preserved : goal.loop-other-preserved
+loop-other-preserved c =
+    let turn = c.in-Some.ensures.steps in
+    copies-more _ c.loop-other.invariant turn.rest turn.least c.word_at.ensures c.put_copy-to.ensures
 
 pub returns : goal.returns
-returns c = copies-done _ c.requires.row_there _ c.long_at-mask.ensures c.without-left.ensures.1 c.loop-left.invariant c.loop-left-test.false
+returns c =
+    let held : parts_in c.into_iter-other-iterator.result ≡ others c.long_at-mask.result c.args.own.0 = search rules in
+    copies-done _ c.requires.row_there _ c.long_at-mask.ensures held c.loop-other.invariant c.in-None.ensures.steps.0

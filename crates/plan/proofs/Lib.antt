@@ -1,0 +1,2 @@
+-- Lemmas on plain values, for the crates above.
+pub mod Sources

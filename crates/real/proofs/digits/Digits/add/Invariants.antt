@@ -1,0 +1,6 @@
+-- `Digits::add` is safe: a carry is small. Assumes nothing.
+use Rattle.std.proofs.Common.{◌<◌}
+use Rattle.real.proofs.digits.Digits.add.Given as goal
+
+abbrev pub invariant-loop-digit : goal.invariant-loop-digit
+invariant-loop-digit l = l.carry < 60

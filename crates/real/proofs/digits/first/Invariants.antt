@@ -1,9 +1,0 @@
--- `digits::first` is safe, ends, and answers a place or the end. Assumes nothing.
-use Prim.Native.Nat.{◌-◌, ◌≤◌}
-use Rattle.real.proofs.digits.first.Given as goal
-
-abbrev pub invariant-loop-i : goal.invariant-loop-i
-invariant-loop-i l = l.i ≤ 1385
-
-abbrev pub decreases-loop-i : goal.decreases-loop-i
-decreases-loop-i l = 1385 - l.i

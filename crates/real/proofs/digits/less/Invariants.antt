@@ -1,9 +1,0 @@
--- `digits::less` is safe and ends. Assumes nothing.
-use Prim.Native.Nat.{◌-◌}
-use Rattle.real.proofs.digits.less.Given as goal
-
-abbrev pub invariant-loop-i : goal.invariant-loop-i
-invariant-loop-i l = Unit {0}
-
-abbrev pub decreases-loop-i : goal.decreases-loop-i
-decreases-loop-i l = 1385 - l.i
