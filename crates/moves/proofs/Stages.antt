@@ -2,24 +2,26 @@
 use Prim.Native.Nat.{ℕ, suc, ◌<◌}
 use native.Mathlib.Nat.{le_of_suc-le-suc, eq-or-lt_of_le}
 use native.Mathlib.Omega.{arith}
-use mathlib.Core.Path.{◌≡◌, sym, ◌∙◌, subst}
+use mathlib.Core.Path.{◌≡◌, refl, sym, ◌∙◌, subst}
 use mathlib.Core.Logic.{⊎_elim}
 use mathlib.Core.List.{List}
+use lib.ListN.{length}
+use lib.Dec.{T}
 use Rattle.std.proofs.Common.{Option, None, Some, Result, Ok, Err}
 use Rattle.paper.specs.declared.EntryRule.{EntryRule}
 use Rattle.paper.specs.declared.EntryRule.TheVariants.{Whole, Destination, Known, Object}
 use Rattle.paper.specs.declared.Refusal.{Refusal}
 use Rattle.paper.specs.Outcome.{at_entry, refusal}
 use Rattle.paper.specs.Image.{Set}
-use Rattle.paper.specs.Move.{all_entries, number_of_entry, entry_judged, entry_rank}
+use Rattle.paper.specs.Move.{all_entries, entry_fitting, entry_part, number_of_entry, entry_judged, entry_rank}
 use Rattle.paper.proofs.Outcomes.{as_refused}
 use Rattle.paper.proofs.Ranks.{one_entry_rank}
 use Rattle.demands.specs.Passed.{EntriesPassed, EntriesPassedAhead, ListPassed}
 use Rattle.demands.proofs.Rows.Entries.{list_stops}
-use Rattle.moves.specs.Entries.{entries_stage}
+use Rattle.moves.specs.Entries.{Ascending, FirstBroken, entries_stage}
 use Rattle.moves.specs.Stages.{ListJudged}
 use Rattle.moves.proofs.Loops.{first_is}
-use Rattle.moves.proofs.Judging.{Found}
+use Rattle.moves.proofs.Judging.{Found, ascending, by_whole, by_destination}
 
 module _ (rule : EntryRule) (S : Set) (l : List ℕ) where
   -- no entry breaks the rule
@@ -56,3 +58,16 @@ pub last_stage : (S : Set) (l : List ℕ) → EntriesPassedAhead Object S l → 
     → ListJudged S l r
 last_stage S l ahead o found (Err r) e = stops Object S l ahead o found r e
 last_stage S l ahead o found (Ok u) e = all_passed S l ahead (passes Object S l o found u e)
+
+-- ---- behind the first two rules
+
+module _ (S : Set) (l : List ℕ) (o : Option ℕ) (fits : FirstBroken (λ i. T (entry_fitting l i)) (all_entries l) o) {u : Unit {0}} (e : Ok u ≡ entries_stage Whole o) where
+  pub whole_ahead : EntriesPassedAhead Destination S l
+  whole_ahead = goes_on Whole S l Destination refl (none_ahead S l) o (by_whole S l o fits) u e
+
+  pub ascend_behind : Ascending l
+  ascend_behind = ascending S l (whole_ahead Whole (omega arith))
+
+  pub parts_ahead : (n : ℕ) → length S ≡ n → (o' : Option ℕ) → FirstBroken (λ i. entry_part l i < n) (all_entries l) o' → {u' : Unit {0}}
+      → Ok u' ≡ entries_stage Destination o' → EntriesPassedAhead Known S l
+  parts_ahead n count o' astray {u'} e' = goes_on Destination S l Known refl whole_ahead o' (by_destination S l n count o' astray) u' e'
