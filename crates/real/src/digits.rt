@@ -38,9 +38,9 @@ impl Digits {
     // More, added to the number.
     pub fn add(&mut self, more: &Digits) {
         let mut carry = 0;
-        for (digit, other) in self.places.iter_mut().zip(&more.places).rev() {
-            let sum = u32::from(*digit) + u32::from(*other) + carry;
-            *digit = (sum % 10) as u8;
+        for i in (0..PLACES).rev() {
+            let sum = u32::from(self.places[i]) + u32::from(more.places[i]) + carry;
+            self.places[i] = (sum % 10) as u8;
             carry = sum / 10;
         }
     }
@@ -67,8 +67,8 @@ impl Digits {
 
     // Zeros from `end` on.
     pub fn clear(&mut self, end: usize) {
-        for digit in self.places.iter_mut().skip(end) {
-            *digit = 0;
+        if let Some(rest) = self.places.get_mut(end..) {
+            rest.fill(0);
         }
     }
 

@@ -2,5 +2,5 @@
 use Rattle.std.proofs.Common.{◌<◌}
 use Rattle.real.proofs.digits.Digits.add.Given as goal
 
-abbrev pub invariant-loop-digit : goal.invariant-loop-digit
-invariant-loop-digit l = l.carry < 60
+abbrev pub invariant-loop-i : goal.invariant-loop-i
+invariant-loop-i l = l.carry < 60
