@@ -4,43 +4,50 @@
 #![tactic(auto)]
 
 use paper::{BoxAnswer, CheckAnswer, Home, LookupAnswer, Number, Part, Refusal, Sound};
-use std::fmt;
 
-// A refusal's number and place, and 0 for each where there is none.
-#[derive(Clone, Copy)]
-struct Shown(Option<Refusal>);
+// A line: what was asked, the refusal's number and place, or 0 for each where there is none, and the values. Each word and number is a write of its
+// own, so that as much of a line stands there as there is room for.
+fn show(rt: &HostRuntime, asked: &str, refusal: Option<Refusal>, values: &[u64]) {
+    let place = match refusal {
+        Some(r) => [r.number, r.major, r.minor],
+        None => [0; 3],
+    };
+    let _ = print!(rt; "{asked}");
+    for number in place {
+        say(rt, u64::from(number));
+    }
+    for &value in values {
+        say(rt, value);
+    }
+    let _ = print!(rt; "\n");
+}
 
-impl fmt::Display for Shown {
-    fn fmt<W: fmt::Write>(&self, f: &mut fmt::Formatter<W>) -> fmt::Result {
-        match self.0 {
-            Some(r) => write!(f, "{} {} {}", r.number, r.major, r.minor),
-            None => f.write_str("0 0 0"),
+fn say(rt: &HostRuntime, number: u64) {
+    let _ = print!(rt; " ");
+    let _ = print!(rt; "{number}");
+}
+
+fn show_check(rt: &HostRuntime, answer: CheckAnswer) {
+    match answer {
+        Err(r) => show(rt, "check", Some(r), &[0, 0]),
+        Ok(Sound { parts, rows }) => show(rt, "check", None, &[u64::from(parts), u64::from(rows)]),
+    }
+}
+
+fn show_lookup(rt: &HostRuntime, answer: LookupAnswer) {
+    match answer {
+        Err(r) => show(rt, "lookup", Some(r), &[0, 0]),
+        Ok(Home { residence, owner }) => {
+            show(rt, "lookup", None, &[u64::from(owner.0), residence])
         }
     }
 }
 
-fn show_check(rt: &HostRuntime, answer: CheckAnswer) {
-    let (refusal, parts, rows) = match answer {
-        Err(r) => (Some(r), 0, 0),
-        Ok(Sound { parts, rows }) => (None, parts, rows),
-    };
-    let _ = println!(rt; "check {} {parts} {rows}", Shown(refusal));
-}
-
-fn show_lookup(rt: &HostRuntime, answer: LookupAnswer) {
-    let (refusal, owner, residence) = match answer {
-        Err(r) => (Some(r), 0, 0),
-        Ok(Home { residence, owner }) => (None, owner.0, residence),
-    };
-    let _ = println!(rt; "lookup {} {owner} {residence}", Shown(refusal));
-}
-
 fn show_box(rt: &HostRuntime, answer: BoxAnswer) {
-    let (refusal, any) = match answer {
-        Err(r) => (Some(r), 0),
-        Ok(around) => (None, around.is_some() as u32),
-    };
-    let _ = println!(rt; "box {} {any}", Shown(refusal));
+    match answer {
+        Err(r) => show(rt, "box", Some(r), &[0]),
+        Ok(around) => show(rt, "box", None, &[around.is_some() as u64]),
+    }
 }
 
 fn main(rt: HostRuntime) {

@@ -146,20 +146,23 @@ fn finish(
 }
 
 // A new file with these bytes in place of the one at the path: a run that is stopped at any moment leaves the old file or the whole new one.
-// Where it cannot be done, the old one is left. The new file is named `beside`, whose XXXXXX is replaced.
-fn replace(
-    rt: &HostRuntime,
-    path: &[u8],
-    beside: &mut [u8],
-    mode: u32,
-    bytes: &[u8],
-) -> io::Result<()> {
-    let file = fresh::create(rt, beside)?;
-    let finished = finish(rt, file, beside, path, mode, bytes);
-    if finished.is_err() {
-        let _ = remove(rt, beside);
+// Where it cannot be done, the old one is left, and the reason is on standard error. The new file is named `beside`, whose XXXXXX is replaced.
+fn replace(rt: &HostRuntime, path: &[u8], beside: &mut [u8], mode: u32, bytes: &[u8]) -> bool {
+    let file = match fresh::create(rt, beside) {
+        Ok(file) => file,
+        Err(why) => {
+            fault(rt, path, &why);
+            return false;
+        }
+    };
+    match finish(rt, file, beside, path, mode, bytes) {
+        Ok(()) => true,
+        Err(why) => {
+            fault(rt, path, &why);
+            let _ = remove(rt, beside);
+            false
+        }
     }
-    finished
 }
 
 // The file that argument `out` names, replaced, by way of one beside it that argument `beside` names. Whether it could be done: if not, the
@@ -175,11 +178,5 @@ pub fn replace_argument(
     let length = rt.arg(out, &mut path).unwrap_or(0);
     let mut name = [0u8; LONGEST];
     let size = rt.arg(beside, &mut name).unwrap_or(0);
-    match replace(rt, &path[..length], &mut name[..size], mode, bytes) {
-        Ok(()) => true,
-        Err(why) => {
-            fault(rt, &path[..length], &why);
-            false
-        }
-    }
+    replace(rt, &path[..length], &mut name[..size], mode, bytes)
 }

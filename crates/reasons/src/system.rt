@@ -16,5 +16,6 @@ pub fn fail(errors: &impl Print, what: &[u8], why: &Error) {
     let mut line = ArrayString::<256>::new();
     let _ = write!(line, "{why}");
     let _ = errors.write_all(what);
-    let _ = println!(errors; ": {}", without_number(line.as_str()));
+    let _ = print!(errors; ": ");
+    let _ = println!(errors; "{}", without_number(line.as_str()));
 }

@@ -4,6 +4,13 @@
 use paper::{BoxAnswer, CheckAnswer, Home, LookupAnswer, Moved, Point, Refusal, Sound};
 use reasons::Status;
 
+// A word and a number behind it, each in a write of its own: where there is no room for one of them there is rarely room for the last words of the
+// answer either, and those tell.
+fn say_number(rt: &HostRuntime, word: &str, number: u64) {
+    let _ = print!(rt; "{word}");
+    let _ = print!(rt; "{number}");
+}
+
 // Says the last words of an answer. Where they cannot be written, the answer was not given: the reason is on standard error.
 fn end(rt: &HostRuntime, words: &[u8], status: Status) -> Status {
     match rt.write_all(words) {
@@ -16,13 +23,11 @@ fn end(rt: &HostRuntime, words: &[u8], status: Status) -> Status {
 }
 
 pub fn refused(rt: &HostRuntime, r: Refusal) -> Status {
-    let Refusal {
-        number,
-        major,
-        minor,
-    } = r;
-    let reason = reasons::of(number);
-    let _ = print!(rt; "refused {number} {major} {minor}  {reason}");
+    say_number(rt, "refused ", u64::from(r.number));
+    say_number(rt, " ", u64::from(r.major));
+    say_number(rt, " ", u64::from(r.minor));
+    let _ = print!(rt; "  ");
+    let _ = print!(rt; "{}", reasons::of(r.number));
     end(rt, b"\n", Status::Refused)
 }
 
@@ -30,26 +35,24 @@ pub fn checked(rt: &HostRuntime, answer: CheckAnswer) -> Status {
     match answer {
         Err(r) => refused(rt, r),
         Ok(Sound { parts, rows }) => {
-            let _ = print!(rt; "sound {parts} parts {rows}");
+            say_number(rt, "sound ", u64::from(parts));
+            say_number(rt, " parts ", u64::from(rows));
             end(rt, b" rows\n", Status::Done)
         }
     }
 }
 
 pub fn moved(rt: &HostRuntime, answer: Moved) -> Status {
-    let Moved {
-        length,
-        rows,
-        moved,
-    } = answer;
-    let _ = print!(rt; "moved {moved} objects {length} bytes {rows}");
+    say_number(rt, "moved ", u64::from(answer.moved));
+    say_number(rt, " objects ", u64::from(answer.length));
+    say_number(rt, " bytes ", u64::from(answer.rows));
     end(rt, b" rows\n", Status::Done)
 }
 
 // The parts of a set, each with a blank before it.
 fn say_parts(rt: &HostRuntime, set: u64) {
     for part in part_set::parts(set) {
-        let _ = print!(rt; " {part}");
+        say_number(rt, " ", u64::from(part));
     }
 }
 
@@ -57,7 +60,8 @@ pub fn found(rt: &HostRuntime, answer: LookupAnswer) -> Status {
     match answer {
         Err(r) => refused(rt, r),
         Ok(Home { residence, owner }) => {
-            let _ = print!(rt; "owner {} residence", owner.0);
+            say_number(rt, "owner ", u64::from(owner.0));
+            let _ = print!(rt; " residence");
             say_parts(rt, residence);
             end(rt, b"\n", Status::Done)
         }
