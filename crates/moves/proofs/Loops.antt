@@ -1,17 +1,18 @@
 -- The first entry that breaks a rule, on plain values. Assumes nothing.
-use Prim.Native.Nat.{ℕ, zero, suc, ◌+◌, ◌≤◌, ◌<◌}
+use Prim.Native.Nat.{ℕ, zero, suc, ◌≤◌, ◌<◌}
+use native.Mathlib.Numerals.{add-one}
 use native.Mathlib.Omega.{arith}
 use mathlib.Core.Path.{◌≡◌, refl, sym, subst}
 use mathlib.Core.Bool.{Bool, true, false}
-use mathlib.Core.Option.{some}
 use lib.Dec.{T}
 use mathlib.Core.List.{List}
 use Rattle.std.proofs.Common.{Option, None, Some, MatchOption}
 use Rattle.laws.proofs.Tests.{T_true, no_T}
-use Rattle.laws.specs.Lists.{from, up_to, first_bad}
+use Rattle.laws.specs.Lists.{up_to, first_bad}
 use Rattle.paper.specs.Move.{entry_name, all_entries}
 use Rattle.moves.specs.Catalog.{Lower}
-use Rattle.moves.specs.Entries.{FirstBroken, FirstSwept}
+use Rattle.moves.specs.Entries.{bad_entry, FirstBroken, FirstSwept}
+use Rattle.moves.proofs.First.{AtEntry, start, skip, hit, over}
 
 -- what `find` over 0 .. total says
 pub first_below : (P : ℕ → Type 0) {n total : ℕ} → total ≡ n → (r : Option ℕ)
@@ -32,21 +33,14 @@ pub first_with : (P Q : ℕ → Type 0) (n : ℕ) → ((i : ℕ) → i < n → P
 first_with P Q n to back None w = λ i h. to i h (w i h)
 first_with P Q n to back (Some i) w = (w.0, λ q. w.1 (back i w.0 q), λ k h. to k (omega (arith, h, w.0)) (w.2 k h))
 
--- the first that fails a test is the paper's
-first_from : (ok : ℕ → Bool) (n a i : ℕ) → i < n → ((k : ℕ) → k < i → T (ok (a + k))) → (T (ok (a + i)) → ⊥) → first_bad ok (from a n) ≡ some (a + i)
-unfolding first_bad from
-first_from ok zero a i h before here = absurd (omega arith)
-first_from ok (suc n) a zero h before here = let e : a + 0 ≡ a = omega arith in rw (no_T (ok a) (rw e at here), e) refl
-first_from ok (suc n) a (suc i) h before here =
-    let e : a + 0 ≡ a = omega arith in
-    let z : suc a + i ≡ a + suc i = omega arith in
-    rw (T_true (ok a) (rw e at (before 0 (omega arith))))
-    (subst (λ (k : ℕ). first_bad ok (from (suc a) n) ≡ some k) z
-    (first_from ok n (suc a) i (omega arith) (λ k g. let y : a + suc k ≡ suc a + k = omega arith in rw y at (before (suc k) (omega (arith, g)))) (λ t. here (rw z at t))))
+-- behind entries that pass, what is left gives the answer
+walked : (ok : ℕ → Bool) (n i : ℕ) → i ≤ n → ((k : ℕ) → k < i → T (ok k)) → AtEntry ok n i
+walked ok n zero h before = start
+walked ok n (suc i) h before =
+    let at : AtEntry ok n i = walked ok n i (omega (arith, h)) (λ k g. before k (omega (arith, g))) in
+    subst (AtEntry ok n) (add-one i) (skip at (omega (arith, h)) (sym (T_true (ok i) (before i (omega arith)))) refl)
 
-pub first_is : (ok : ℕ → Bool) (n i : ℕ) → FirstBroken (λ k. T (ok k)) n (Some i) → first_bad ok (up_to n) ≡ some i
-unfolding up_to
-first_is ok n i w =
-    let e : (k : ℕ) → 0 + k ≡ k = λ k. omega arith in
-    subst (λ (k : ℕ). first_bad ok (from 0 n) ≡ some k) (e i)
-    (first_from ok n 0 i w.0 (λ k h. subst (λ (z : ℕ). T (ok z)) (sym (e k)) (w.2 k h)) (λ t. w.1 (subst (λ (z : ℕ). T (ok z)) (e i) t)))
+-- the first that fails a test is the paper's, and so is none
+pub first_is : (ok : ℕ → Bool) (n : ℕ) (r : Option ℕ) → FirstBroken (λ k. T (ok k)) n r → bad_entry r ≡ first_bad ok (up_to n)
+first_is ok n None w = over (walked ok n n (omega arith) w) (omega arith)
+first_is ok n (Some i) w = hit (walked ok n i (omega (arith, w.0)) w.2) w.0 (sym (no_T (ok i) w.1)) refl

@@ -4,27 +4,17 @@ use native.Mathlib.Nat.{le_of_suc-le-suc, eq-or-lt_of_le}
 use native.Mathlib.Omega.{arith}
 use mathlib.Core.Path.{◌≡◌, refl, sym, ap, ◌∙◌, subst}
 use mathlib.Core.Logic.{⊎_elim}
-use mathlib.Core.Option as math
 use mathlib.Core.List.{List}
 use lib.ListN.{length}
 use Rattle.std.specs.Prelude.{Option, None, Some}
 use Rattle.paper.specs.declared.EntryRule.{EntryRule}
-use Rattle.paper.specs.declared.EntryRule.TheVariants.{Whole, Destination, Known}
+use Rattle.paper.specs.declared.EntryRule.TheVariants.{Whole, Destination}
 use Rattle.paper.specs.Image.{Set}
 use Rattle.paper.specs.Move.{entry_rank}
 use Rattle.paper.proofs.Ranks.{one_entry_rank}
 use Rattle.demands.specs.Passed.{EntriesPassed, EntriesPassedAhead}
 use Rattle.demands.proofs.Rows.Entries.{first_entry, clear_passes}
-
-abbrev pub bad_entry : Option ℕ → math.Option ℕ
-bad_entry None = math.none
-bad_entry (Some i) = math.some i
-
--- it stands before Known, and every entry passes the rules before it
-pub record EntryReady (rule : EntryRule) (S : Set) (l : List ℕ) (n : ℕ) : Type 0 where
-  pub early : entry_rank rule < entry_rank Known
-  pub parts : length S ≡ n
-  pub passed : EntriesPassedAhead rule S l
+use Rattle.moves.specs.Entries.{bad_entry, EntryReady}
 
 module _ (S : Set) (l : List ℕ) (rule : EntryRule) (ahead : EntriesPassedAhead rule S l) (bad : Option ℕ) (found : bad_entry bad ≡ first_entry S l rule) where
   -- no entry fails: one rule more has passed
@@ -35,7 +25,7 @@ module _ (S : Set) (l : List ℕ) (rule : EntryRule) (ahead : EntriesPassedAhead
       subst (λ (r : EntryRule). EntriesPassed r S l) (sym (one_entry_rank told rule is)) (clear_passes S l rule (sym found ∙ ap bad_entry e)))
       (λ (m : entry_rank told < entry_rank rule). ahead told m) (eq-or-lt_of_le (le_of_suc-le-suc h))
 
-  passed_on : (next : EntryRule) → entry_rank next ≡ suc (entry_rank rule) → bad ≡ None → EntriesPassedAhead next S l
+  pub passed_on : (next : EntryRule) → entry_rank next ≡ suc (entry_rank rule) → bad ≡ None → EntriesPassedAhead next S l
   passed_on next step e told h = through e told (omega (arith, step, h))
 
 module _ {S : Set} {l : List ℕ} where

@@ -17,13 +17,23 @@ use Rattle.paper.specs.Move.{all_entries, entry_fitting, entry_part, number_of_e
 use Rattle.paper.proofs.Outcomes.{as_refused}
 use Rattle.paper.proofs.Ranks.{one_entry_rank}
 use Rattle.demands.specs.Passed.{EntriesPassed, EntriesPassedAhead, ListPassed}
-use Rattle.demands.proofs.Rows.Entries.{list_stops}
-use Rattle.moves.specs.Entries.{Ascending, FirstBroken, entries_stage}
+use Rattle.demands.proofs.Rows.Entries.{first_entry, list_stops}
+use Rattle.moves.specs.Entries.{bad_entry, EntryReady, Ascending, FirstBroken, entries_stage}
 use Rattle.moves.specs.Stages.{ListJudged}
 use Rattle.moves.proofs.Loops.{first_is}
 use Rattle.moves.proofs.Judging.{Found, ascending, by_whole, by_destination}
+use Rattle.moves.proofs.Ready.{first_ready, second_ready}
 
 module _ (rule : EntryRule) (S : Set) (l : List ℕ) where
+  -- what the code finds first is what the paper does
+  found_first : (o : Option ℕ) → Found rule S l o → bad_entry o ≡ first_entry S l rule
+  found_first o found = first_is (entry_judged rule S l) (all_entries l) o found
+
+  -- the stage goes on where it is none
+  none_found : (o : Option ℕ) (u : Unit {0}) → Ok u ≡ entries_stage rule o → o ≡ None
+  none_found None u e = refl
+  none_found (Some i) u e = cc
+
   -- no entry breaks the rule
   passes : (o : Option ℕ) → Found rule S l o → (u : Unit {0}) → Ok u ≡ entries_stage rule o → EntriesPassed rule S l
   passes None found u e = found
@@ -34,7 +44,7 @@ module _ (rule : EntryRule) (S : Set) (l : List ℕ) where
   stops ahead None found r e = cc
   stops ahead (Some i) found r e =
       let is : r ≡ refusal (number_of_entry rule) (at_entry i) = cc in
-      λ work. list_stops S l rule i work ahead (first_is (entry_judged rule S l) (all_entries l) i found) ∙ sym (as_refused is)
+      λ work. list_stops S l rule i work ahead (sym (found_first (Some i) found)) ∙ sym (as_refused is)
 
   -- one rule more has passed
   pub goes_on : (next : EntryRule) → entry_rank next ≡ suc (entry_rank rule) → EntriesPassedAhead rule S l → (o : Option ℕ) → Found rule S l o → (u : Unit {0})
@@ -44,10 +54,14 @@ module _ (rule : EntryRule) (S : Set) (l : List ℕ) where
       (λ (is : entry_rank told ≡ entry_rank rule). subst (λ (r : EntryRule). EntriesPassed r S l) (sym (one_entry_rank told rule is)) (passes o found u e))
       (λ (m : entry_rank told < entry_rank rule). ahead told m) (eq-or-lt_of_le (le_of_suc-le-suc (omega (arith, step, h))))
 
-pub none_ahead : (S : Set) (l : List ℕ) → EntriesPassedAhead Whole S l
-none_ahead S l rule h = absurd (omega arith)
+-- the first rule stands behind none
+none_before : (S : Set) (l : List ℕ) → EntryReady Whole S l (length S)
+none_before S l = first_ready refl
 
-all_passed : (S : Set) (l : List ℕ) → EntriesPassedAhead Object S l → EntriesPassed Object S l → ListPassed S l
+pub none_ahead : (S : Set) (l : List ℕ) → EntriesPassedAhead Whole S l
+none_ahead S l = (none_before S l).passed
+
+pub all_passed : (S : Set) (l : List ℕ) → EntriesPassedAhead Object S l → EntriesPassed Object S l → ListPassed S l
 all_passed S l ahead here Whole = ahead Whole (omega arith)
 all_passed S l ahead here Destination = ahead Destination (omega arith)
 all_passed S l ahead here Known = ahead Known (omega arith)
@@ -63,7 +77,7 @@ last_stage S l ahead o found (Ok u) e = all_passed S l ahead (passes Object S l 
 
 module _ (S : Set) (l : List ℕ) (o : Option ℕ) (fits : FirstBroken (λ i. T (entry_fitting l i)) (all_entries l) o) {u : Unit {0}} (e : Ok u ≡ entries_stage Whole o) where
   pub whole_ahead : EntriesPassedAhead Destination S l
-  whole_ahead = goes_on Whole S l Destination refl (none_ahead S l) o (by_whole S l o fits) u e
+  whole_ahead = (second_ready (none_before S l) o (found_first Whole S l o (by_whole S l o fits)) (none_found Whole S l o u e)).passed
 
   pub ascend_behind : Ascending l
   ascend_behind = ascending S l (whole_ahead Whole (omega arith))

@@ -1,15 +1,30 @@
 -- The entries of a list under one rule: the first that breaks it, and what that comes to. Assumes nothing.
-use Rattle.std.specs.Prelude.{ℕ, ◌+◌, ◌*◌, ◌≤◌, ◌<◌, Bool, true, false, List, length, Option, None, Some, Result, Ok, Err, MatchOption}
+use Rattle.std.specs.Prelude.{ℕ, ◌+◌, ◌*◌, ◌≤◌, ◌<◌, ◌≡◌, Bool, true, false, List, length, Option, None, Some, Result, Ok, Err, MatchOption}
+use Rattle.std.proofs.Math.Option as math
 use Rattle.paper.specs.declared.EntryRule.{EntryRule}
+use Rattle.paper.specs.declared.EntryRule.TheVariants.{Known}
 use Rattle.paper.specs.declared.Refusal.{Refusal}
 use Rattle.paper.specs.Outcome.{at_entry, refusal}
-use Rattle.paper.specs.Move.{entry_name, all_entries, number_of_entry}
+use Rattle.paper.specs.Image.{Set}
+use Rattle.paper.specs.Move.{entry_name, all_entries, number_of_entry, entry_rank}
+use Rattle.demands.specs.Passed.{EntriesPassedAhead}
 use Rattle.moves.specs.Catalog.{Lower}
 
 -- the refusal by the rule, where an entry breaks it
 abbrev pub entries_stage : EntryRule → Option ℕ → Result (Unit {0}) Refusal
 entries_stage rule None = Ok tt
 entries_stage rule (Some i) = Err (refusal (number_of_entry rule) (at_entry i))
+
+-- and in the paper's words
+abbrev pub bad_entry : Option ℕ → math.Option ℕ
+bad_entry None = math.none
+bad_entry (Some i) = math.some i
+
+-- a rule that is judged entry by entry: it stands before Known, and every entry passes the rules before it
+pub record EntryReady (rule : EntryRule) (S : Set) (l : List ℕ) (n : ℕ) : Type 0 where
+  pub early : entry_rank rule < entry_rank Known
+  pub parts : length S ≡ n
+  pub passed : EntriesPassedAhead rule S l
 
 -- every entry is whole, and their names ascend
 pub record Ascending (l : List ℕ) : Type 0 where

@@ -11,13 +11,13 @@ use Rattle.paper.specs.declared.Slot.{Slot}
 use Rattle.paper.specs.Image.{Set}
 use Rattle.index.specs.Index.{set_in, Indexed, Named}
 use Rattle.paper.specs.declared.Rule.TheVariants.{Fields, Order, Copies}
-use Rattle.copies.specs.Copies.{twins_agree}
 use Rattle.copies.proofs.Holders.{twins_pass}
 use Rattle.demands.specs.Passed.{Passed, PassedAhead, PassedThrough}
 use Rattle.demands.proofs.Rows.Faults.{passes_none}
 use Rattle.entities.specs.declared.Repeated.{Repeated}
 use Rattle.entities.specs.LowestCopies.{Entities}
 use Rattle.entities.proofs.Distinct.{distinct_copies, copies_distinct}
+use Rattle.sound.specs.Tests.{tested, Twins}
 use Rattle.sound.specs.Faults.{fault_place, Tells, FirstFault}
 use Rattle.sound.specs.Stages.{EachOnce}
 use Rattle.sound.proofs.Judging.{clear_passes}
@@ -28,16 +28,16 @@ no_fault None e = refl
 no_fault (Some f) e = absurd (math.some-ne-none _ e)
 
 -- where rule 10 passes, each copy that a row names agrees
-pub twins_clear : {says : Part → Slot → Bool → Type 0} (S : Set) {fault : Option (Part × Slot)} → FirstFault says S fault → Tells says S (twins_agree S) → Passed Copies S → fault ≡ None
-twins_clear S {fault} first tells pass = no_fault fault (first.place (twins_agree S) tells ∙ passes_none (twins_agree S) S (twins_pass S pass))
+pub twins_clear : {says : Part → Slot → Bool → Type 0} (S : Set) {fault : Option (Part × Slot)} → FirstFault says S fault → Tells says S (tested Twins S) → Passed Copies S → fault ≡ None
+twins_clear S {fault} first tells pass = no_fault fault (first.place (tested Twins S) tells ∙ passes_none (tested Twins S) S (twins_pass S pass))
 
 module _ {b offs starts keys ord tmp ord' tmp' : List ℕ} {n : ℕ} (index : Indexed b offs starts n) (named : Named b starts keys) (ahead : PassedAhead Copies (set_in b)) where
   -- every copy agrees and no name is there twice: rule 10 passes, and the entities are listed
   module _ {count : ℕ} (listed : Entities (set_in b) starts keys ord tmp ord' tmp' n (Ok count)) where
-    pub names_listed : {says : Part → Slot → Bool → Type 0} → FirstFault says (set_in b) None → Tells says (set_in b) (twins_agree (set_in b))
+    pub names_listed : {says : Part → Slot → Bool → Type 0} → FirstFault says (set_in b) None → Tells says (set_in b) (tested Twins (set_in b))
         → PassedThrough Copies (set_in b) × EachOnce (set_in b) starts keys ord' n count
     names_listed first tells = (
-      goes (set_in b) Copies ahead (distinct_copies index named (ahead Fields (omega arith)) (ahead Order (omega arith)) listed (clear_passes (twins_agree (set_in b)) tells first) refl),
+      goes (set_in b) Copies ahead (distinct_copies index named (ahead Fields (omega arith)) (ahead Order (omega arith)) listed (clear_passes (tested Twins (set_in b)) tells first) refl),
       record {
         rows = listed.rows;
         distinct = listed.distinct;

@@ -4,12 +4,12 @@ use Rattle.std.specs.Prelude.{ℕ, ◌<◌, ◌≡◌, Bool, true, [], length, g
 use Rattle.std.proofs.Math.Option as math
 use Rattle.paper.specs.declared.Part.{Part}
 use Rattle.paper.specs.declared.Slot.{Slot}
-use Rattle.paper.specs.declared.Rule.{Rule}
 use Rattle.paper.specs.Outcome.{Place, at_row}
 use Rattle.paper.specs.Image.{Set}
-use Rattle.paper.specs.Sound.{judged, first_fault_of}
+use Rattle.paper.specs.Sound.{first_fault_of}
 use Rattle.demands.specs.Passed.{PassedAhead}
 use Rattle.sound.specs.Ready.{Due}
+use Rattle.sound.specs.Tests.{Test, tested, rule_for}
 
 abbrev pub fault_place : Option (Part × Slot) → math.Option Place
 fault_place None = math.none
@@ -20,11 +20,11 @@ module _ (may : Part → Slot → Type 0) (says : Part → Slot → Bool → Typ
   pub record Askable (S : Set) : Type 0 where
     pub asked : (part : Part) (slot : Slot) → slot.0 < length (get_or S part.0 []) → ((t : Slot) → t.0 < slot.0 → says part t true) → may part slot
 
-  -- it may be asked of each row where the rules before this one pass and so do the rows of the part before it, and says what the rule says
-  pub record Judges (rule : Rule) (S : Set) : Type 0 where
-    pub passed : PassedAhead rule S
-    pub asked : (part : Part) (slot : Slot) → Due (judged rule S) S part.0 slot.0 → may part slot
-    pub told : (part : Part) (slot : Slot) (r : Bool) → slot.0 < length (get_or S part.0 []) → says part slot r → r ≡ judged rule S part.0 slot.0
+  -- it may be asked of each row where the rules before that of the test pass and so do the rows of the part before it, and says what the test says
+  pub record Judges (test : Test) (S : Set) : Type 0 where
+    pub passed : PassedAhead (rule_for test) S
+    pub asked : (part : Part) (slot : Slot) → Due (tested test S) S part.0 slot.0 → may part slot
+    pub told : (part : Part) (slot : Slot) (r : Bool) → slot.0 < length (get_or S part.0 []) → says part slot r → r ≡ tested test S part.0 slot.0
 
 module _ (says : Part → Slot → Bool → Type 0) (S : Set) where
   -- what it says of each row is what ok says

@@ -1,5 +1,5 @@
--- The tests of a row by name: the six rules, and `Twins`, that the copies which a row names agree, which is half of the rule Copies. The code asks
--- them by closures; this list is for the laws of `proofs/Told.antt`. Assumes nothing.
+-- The tests of a row by name: the six rules, and `Twins`, that the copies which a row names agree, which is half of the rule Copies. Each closure
+-- that the code asks says what its test here says (`Faults.Judges`, `proofs/Behind.antt`). Assumes nothing.
 use Rattle.std.specs.Prelude.{ℕ, Bool}
 use Rattle.paper.specs.declared.Rule.{Rule}
 use Rattle.paper.specs.declared.Rule.TheVariants as rule

@@ -10,6 +10,7 @@ ghost use Rattle.index.specs.Index.{Named, max_rows};
 ghost use Rattle.rows.specs.Tables.{set_of};
 ghost use Rattle.sound.specs.Faults.{Askable, Judges, FirstFault};
 ghost use Rattle.sound.specs.Ready.{Rooms, IndexRooms};
+ghost use Rattle.sound.specs.Tests.{test_of};
 ghost use Rattle.sound.specs.Stages.{UpTo, CopiesJudged, HomesJudged, AllJudged, Examines, Surveys};
 
 use paper::{CheckAnswer, Part, Refusal, Rule, Slot, Sound, Unplaced};
@@ -43,7 +44,7 @@ fn first_fault<F: Fn(Part, Slot) -> bool>(tables: &Tables, passes: F) -> Option<
 
 // Judges one rule of every row, where the rules before it pass: its first fault is the refusal.
 fn judge<F: Fn(Part, Slot) -> bool>(rule: Rule, tables: &Tables, keeps: F) -> Result<(), Refusal>
-    requires { Judges (F.pre keeps) (F.post keeps) rule (set_of tables.now) }
+    requires { Judges (F.pre keeps) (F.post keeps) (test_of rule) (set_of tables.now) }
     ensures { UpTo rule (set_of tables.now) result }
 {
     match first_fault(tables, keeps) {

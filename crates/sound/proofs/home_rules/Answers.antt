@@ -7,6 +7,7 @@ use Rattle.residence.proofs.owner.Laws.{countable, open_objects}
 use Rattle.paper.specs.declared.Rule.TheVariants.{Residence, Owner}
 use Rattle.rows.proofs.Copied.{index_own}
 use Rattle.sound.proofs.Stages.{next}
+use Rattle.sound.proofs.Told.{gone}
 use Rattle.sound.proofs.home_rules.Goals as goal
 
 pub count_objects-requires : goal.count_objects-requires
@@ -15,7 +16,7 @@ count_objects-requires c = countable c.args.tables.now.indexed c.cover.ensures.c
 pub judge-requires-2 : goal.judge-requires-2
 judge-requires-2 c =
     let tables = c.args.tables.now in
-    let passed = next _ Residence Owner refl c.in_ok-judge.ensures in
+    let passed = next _ Residence Owner refl (gone _ Residence c.in_ok-judge.ensures refl) in
     let counted = open_objects tables.indexed (bytes_all _ tables.bytes) passed c.cover.ensures.covers (omega arith) c.count_objects.ensures in
     let own = index_own tables.indexed in
     record {

@@ -13,7 +13,9 @@ use Rattle.fields.proofs.Laws.{fields-judged}
 use Rattle.fields.proofs.Keys.{keys_judged}
 use Rattle.index.specs.Index.{row_from}
 use Rattle.rows.proofs.Laws.{part_there, row_there, offset_there}
+use Rattle.sound.specs.Tests as test
 use Rattle.sound.proofs.Stages.{nothing_ahead, next}
+use Rattle.sound.proofs.Told.{as_told, gone}
 use Rattle.sound.proofs.Turns.{part_within, row_within, for_boundary}
 use Rattle.sound.proofs.shape_rules.Goals as goal
 
@@ -31,31 +33,31 @@ judge-requires c =
           grind arith;
       told = λ part slot r there said.
           let row : fields_fit tables.parts part.0 (row_from tables.image.now (get_or tables.offs.now (get_or tables.starts.now part.0 0 + slot.0) 0)) ≡ judged Fields (set_of tables) part.0 slot.0 = fields-judged tables.indexed part.0 slot.0 there in
-          grind arith;
+          as_told {told = test.Fields} refl _ _ _ (grind arith);
     }
 
 pub judge-requires-2 : goal.judge-requires-2
 judge-requires-2 c =
     let tables = c.args.tables.now in
     record {
-      passed = next _ Fields Order refl c.in_ok-judge.ensures;
+      passed = next _ Fields Order refl (gone _ Fields c.in_ok-judge.ensures refl);
       asked = λ part slot due.
           let in_starts : part.0 < length tables.starts.now = part_within tables.indexed _ _ due.there in
           let in_keys : get_or tables.starts.now part.0 0 + slot.0 < length c.args.keys.now = omega (arith, row_there tables.indexed _ _ due.there, c.requires.room) in
           search rules;
       told = λ part slot r there said.
           let names : key_ascends c.args.keys.now tables.starts.now part.0 slot.0 ≡ judged Order (set_of tables) part.0 slot.0 = keys_judged c.requires _ _ there in
-          grind arith;
+          as_told {told = test.Order} refl _ _ _ (grind arith);
     }
 
 pub judge-requires-3 : goal.judge-requires-3
 judge-requires-3 c =
     let tables = c.args.tables.now in
-    let passed = next _ Order Boundary refl c.in_ok-judge-2.ensures in
+    let passed = next _ Order Boundary refl (gone _ Order c.in_ok-judge-2.ensures refl) in
     record {
       passed = passed;
       asked = λ part slot due.
           let turn : RowAhead tables.image.now tables.offs.now tables.starts.now c.args.keys.now part.0 slot.0 = for_boundary tables.indexed c.requires passed due in
           search rules;
-      told = λ part slot r there said. search rules;
+      told = λ part slot r there said. as_told {told = test.Boundary} refl _ _ _ (search rules);
     }
