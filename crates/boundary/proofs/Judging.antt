@@ -75,7 +75,7 @@ edge-vertices : (rows : List Row) (e : ℕ) → T (ascending (faces_at rows 1 e)
 unfolding slot_vertices
 edge-vertices rows e t = one_each (faces_at rows 1 e) t
 
-asc_two : (x y : ℕ) → x < y → T (ascending (x ∷ y ∷ []))
+pub asc_two : (x y : ℕ) → x < y → T (ascending (x ∷ y ∷ []))
 asc_two x y h = asc_cons x (y ∷ []) below (asc_cons y [] (λ q i. absurd i) asc_nil)
   where
     below : (q : ℕ) → In q (y ∷ []) → x < q

@@ -33,7 +33,7 @@ use Rattle.copies.proofs.Placed.{Stands, order_passed}
 -- ---- what the search finds
 
 module _ {keys starts : List ℕ} {q name s : ℕ} where
-  hit-held : Hit keys starts q name s → true ≡ member name (part_keys keys starts q)
+  pub hit-held : Hit keys starts q name s → true ≡ member name (part_keys keys starts q)
   unfolding part_keys
   hit-held h =
       let size = get_or starts (q + 1) 0 - get_or starts q 0 in
@@ -41,7 +41,7 @@ module _ {keys starts : List ℕ} {q name s : ℕ} where
       let there = in_map key (up_to size) s (in_up_to size s (omega (arith, h.inside))) in
       sym (T_true (member name (map key (up_to size))) (in_member name (map key (up_to size)) (subst (λ (x : ℕ). In x (map key (up_to size))) h.same there)))
 
-  miss_absent : Miss keys starts q name s → false ≡ member name (part_keys keys starts q)
+  pub miss_absent : Miss keys starts q name s → false ≡ member name (part_keys keys starts q)
   unfolding part_keys
   miss_absent m =
       let size = get_or starts (q + 1) 0 - get_or starts q 0 in

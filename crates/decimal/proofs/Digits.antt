@@ -15,7 +15,7 @@ use Rattle.laws.proofs.Tests.{and-false}
 use Rattle.decimal.specs.Decimal.{goes_on, read_from, number_in}
 
 -- what is left of a text from i on, with the next character apart
-next : (text : List ℕ) (i : ℕ) → i < length text → drop i text ≡ get_or text i 0 ∷ drop (i + 1) text
+pub next : (text : List ℕ) (i : ℕ) → i < length text → drop i text ≡ get_or text i 0 ∷ drop (i + 1) text
 next text i h = drop-cons text i 0 h ∙ ap (λ (k : ℕ). get_or text i 0 ∷ drop k text) (sym (add-one i))
 
 pub record Reading (text : List ℕ) (n i : ℕ) : Type 0 where

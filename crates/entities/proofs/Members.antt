@@ -66,6 +66,9 @@ module _ {S : Set} {starts keys ord tmp ord' tmp' : List ℕ} {n : ℕ} {r : Res
       let j : In (get_or ord' i 0) xs = rw (get_or-take (count_of r) ord' i 0 h) at (get_or_in xs i 0 l) in
       listed_low S starts keys n (get_or ord' i 0) (subst (λ (ys : List ℕ). In (get_or ord' i 0) ys) e.rows j)
 
+  pub low_entry : (p s : ℕ) → p < n → s < length (get_or S p []) → T (is_low S p s) → In (get_or starts p 0 + s) (take (count_of r) ord')
+  low_entry p s l h t = subst (λ (ys : List ℕ). In (get_or starts p 0 + s) ys) (sym e.rows) (low_listed S starts keys n p s l h t)
+
 -- ---- what is gathered, as runs to merge
 
 module _ {b offs starts : List ℕ} {n : ℕ} (index : Indexed b offs starts n) (keys : List ℕ) (named : Named b starts keys) (ord st ord' st' : List ℕ) (t : ℕ)

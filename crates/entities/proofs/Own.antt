@@ -41,7 +41,7 @@ module _ (S : Set) (fields : Passed Fields S) (p s : ℕ) (h : s < length (get_o
 
 -- what is read of row s of part p
 module _ {b offs starts : List ℕ} {n : ℕ} (index : Indexed b offs starts n) (fields : Passed Fields (set_in b)) (p s : ℕ) (h : s < length (get_or (set_in b) p [])) where
-  mask_at : u64_at b (get_or offs (get_or starts p 0 + s) 0 + 8) ≡ (row_at (set_in b) p s).mask
+  pub mask_at : u64_at b (get_or offs (get_or starts p 0 + s) 0 + 8) ≡ (row_at (set_in b) p s).mask
   mask_at = sym (row_mask b (get_or offs (get_or starts p 0 + s) 0)) ∙ ap (λ (r : Row). r.mask) (sym (index.row p s h))
 
   pub mask_some : 0 < u64_at b (get_or offs (get_or starts p 0 + s) 0 + 8)

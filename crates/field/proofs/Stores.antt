@@ -1,13 +1,15 @@
 -- A run of stores: a list stored one by one or at once, and what that leaves.
 -- Assumes nothing.
-use Prim.Native.Nat.{ℕ, suc, ◌+◌, ◌-◌, ◌≤◌, ◌<◌}
-use native.Mathlib.Nat.{add-zero}
+use Prim.Native.Nat.{ℕ, zero, suc, ◌+◌, ◌-◌, ◌*◌, ◌/◌, ◌%◌, ◌^◌, ◌≤◌, ◌<◌}
+use native.Mathlib.Nat.{add-zero, suc-add, zero-add, div-one}
 use native.Mathlib.Omega.{arith}
 use mathlib.Core.Path.{◌≡◌, refl, sym, ap, ap₂, ◌∙◌}
-use mathlib.Core.List.{List, ◌++◌, append_assoc}
+use mathlib.Core.List.{List, ◌∷◌, ◌++◌, append_assoc}
 use lib.ListN.{length, set, get_or, take, drop, length-set, length-take, length-drop, drop_of_length-le}
 use borrow.Rule.Slice.PartMut.{put_mid}
 use lib.Seq.{sets, sets-eq, drop-drop, drop-cons, get_or-take, get_or-drop, length-take-le, take_at, drop_at}
+use lib.Pow.{shr-shr, mod-mod-pow, field}
+use Rattle.field.specs.Bytes.{bytes_of}
 
 -- ---- one by one: what is left to store gives what was to be stored
 
@@ -58,3 +60,27 @@ put_is out xs p at n h e f =
     ap₂ {C = List ℕ} (λ (m : ℕ) (l : List ℕ). put_mid at m out l) k f
     ∙ ap (λ (l : List ℕ). take at out ++ (xs ++ l)) (drop-drop (length xs) at out)
     ∙ sym (split out at xs (omega arith))
+
+-- ---- a number in w + u bytes is one in w and one in u
+
+pub bytes_cat : (w u n : ℕ) → bytes_of (w + u) n ≡ bytes_of w n ++ bytes_of u (n / 2 ^ (8 * w))
+unfolding bytes_of
+bytes_cat zero u n = ap₂ bytes_of (zero-add u) (sym (div-one n))
+bytes_cat (suc w) u n =
+    let e : 8 + 8 * w ≡ 8 * suc w = omega arith in
+    ap (λ (k : ℕ). bytes_of k n) (suc-add w u)
+    ∙ ap (λ (l : List ℕ). n % 256 ∷ l)
+    (bytes_cat w u (n / 256) ∙ ap (λ (x : ℕ). bytes_of w (n / 256) ++ bytes_of u x) (shr-shr n 8 (8 * w) ∙ ap (λ (k : ℕ). n / 2 ^ k) e))
+
+-- and keeps no more of it
+pub bytes_mod : (w n : ℕ) → bytes_of w (n % 2 ^ (8 * w)) ≡ bytes_of w n
+unfolding bytes_of
+bytes_mod zero n = refl
+bytes_mod (suc w) n =
+    let e : 8 * suc w ≡ 8 * w + 8 = omega arith in
+    ap (λ (k : ℕ). bytes_of (suc w) (n % 2 ^ k)) e
+    ∙ ap₂ {C = List ℕ} (λ (x : ℕ) (l : List ℕ). x ∷ l) (mod-mod-pow n (8 * w) 8)
+    (ap (bytes_of w) (field n (8 * w) 8) ∙ bytes_mod w (n / 256))
+
+pub bytes_halves : (w n : ℕ) → bytes_of w (n % 2 ^ (8 * w)) ++ bytes_of w (n / 2 ^ (8 * w)) ≡ bytes_of (w + w) n
+bytes_halves w n = ap (λ (l : List ℕ). l ++ bytes_of w (n / 2 ^ (8 * w))) (bytes_mod w n) ∙ sym (bytes_cat w w n)

@@ -5,7 +5,7 @@ use mathlib.Core.Path.{◌≡◌, refl, sym, ◌∙◌, subst}
 use mathlib.Core.Bool.{Bool, true, false, cond}
 use mathlib.Core.List.{List, [], ◌∷◌}
 use lib.ListN.{length, take}
-use lib.Dec.{T, leb, ltb, eqb, leb→le}
+use lib.Dec.{T, leb, ltb, eqb, leb→le, ltb→lt}
 use borrow.Author.Tests.{le-leb, lt-leb, eq-eqb, ne_eqb, leb-true, eqb-true}
 use Rattle.laws.specs.Lists.{same}
 use Rattle.std.specs.Prelude.{nat_eq}
@@ -88,6 +88,10 @@ headed b e =
       version = eqb-true (u16_at b 3) 1 e₄.0;
       parts = e₅.0;
     }
+
+pub parts_some : (b : List ℕ) → Headed b → 0 < u8_at b 5
+unfolding parts_counted
+parts_some b h = ltb→lt 0 (u8_at b 5) (split3 (ltb 0 (u8_at b 5)) (leb (u8_at b 5) 64) (eqb (u16_at b 6) 0) (true_T _ h.parts)).0
 
 pub parts_few : (b : List ℕ) → Headed b → u8_at b 5 ≤ 64
 unfolding parts_counted

@@ -80,6 +80,10 @@ module _ (b : List ℕ) (o : ℕ) where
   unfolding row_in
   row-slots = ap (words (remotes (u64_at (drop o b) 8))) (drop-drop 48 o b)
 
+  -- byte i of the body
+  pub row_byte : (i : ℕ) → i < 24 → get_or (row_from b o).body i 0 ≡ u8_at b (o + 24 + i)
+  row_byte i h = ap (λ (l : List ℕ). get_or l i 0) row_body ∙ get_or-take 24 (drop (o + 24) b) i 0 h ∙ get_or-drop (o + 24) b i 0
+
   -- word i of the body, of which there are 6 or fewer
   pub row_word : (k i : ℕ) → i < k → k ≤ 6 → get_or (words k (row_from b o).body) i 0 ≡ u32_at b (o + 24 + 4 * i)
   row_word k i h few =

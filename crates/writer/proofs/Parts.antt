@@ -36,7 +36,7 @@ pub record RunsLeft (f : ℕ → List ℕ) (xs start : List ℕ) (at : ℕ) (out
   pub writing : Writing start at (runs f xs) out to (runs f (drop k xs))
   pub next? : to + length (runs f (drop k xs)) ≡ at + length (runs f xs)
 
-runs_none : (f : ℕ → List ℕ) (xs : List ℕ) {start : List ℕ} {at : ℕ} → at + length (runs f xs) ≤ length start → RunsLeft f xs start at start 0 at
+pub runs_none : (f : ℕ → List ℕ) (xs : List ℕ) {start : List ℕ} {at : ℕ} → at + length (runs f xs) ≤ length start → RunsLeft f xs start at start 0 at
 runs_none f xs {start} {at} h = record { writing = write_none start at (runs f xs) (runs f xs) refl h; next? = refl }
 
 runs_split : (f : ℕ → List ℕ) (xs : List ℕ) (k : ℕ) → k < length xs → runs f (drop k xs) ≡ f (get_or xs k 0) ++ runs f (drop (k + 1) xs)
@@ -57,7 +57,7 @@ module _ {f : ℕ → List ℕ} {xs start : List ℕ} {at : ℕ} {out : List ℕ
         next? = omega (arith, w.next?, p.next?, ap length (runs_split f xs k l), length-append one rest);
       }
 
-  runs_done : length xs ≤ k → Put (runs f xs) start out at to
+  pub runs_done : length xs ≤ k → Put (runs f xs) start out at to
   runs_done l =
       let none = ap (runs f) (drop_of_length-le xs l) ∙ runs_nil f in
       record { written = write_done start at (runs f xs) out to (runs f (drop k xs)) w.writing none; next? = omega (arith, w.next?, ap length none) }

@@ -55,6 +55,15 @@ keep-take f (x ∷ xs) (suc k) d h = go (f x) (keep-take f xs k d (le_of_suc-le-
     go true e = omega (arith, e)
     go false e = e
 
+pub open_le : (cov : List ℕ) (first k : ℕ) → open_from cov first k ≤ k
+unfolding open_from
+open_le cov first zero = omega arith
+open_le cov first (suc k) = go (eqb (get_or cov (first + k) 0) 0) (open_le cov first k)
+  where
+    go : (t : Bool) → open_from cov first k ≤ k → open_from cov first k + cond t 1 0 ≤ suc k
+    go true h = omega arith
+    go false h = omega arith
+
 open_keep : {A : Type 0} (f : A → Bool) (xs : List A) (d : A) (cov : List ℕ) (first : ℕ) → ((i : ℕ) → i < length xs → eqb (get_or cov (first + i) 0) 0 ≡ f (get_or xs i d))
     → (k : ℕ) → k ≤ length xs → open_from cov first k ≡ length (keep f (take k xs))
 unfolding open_from keep
