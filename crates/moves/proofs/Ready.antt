@@ -6,7 +6,7 @@ use mathlib.Core.Path.{◌≡◌, refl, sym, ap, ◌∙◌, subst}
 use mathlib.Core.Logic.{⊎_elim}
 use mathlib.Core.List.{List}
 use lib.ListN.{length}
-use Rattle.std.specs.Prelude.{Option, None, Some}
+use Rattle.std.specs.Prelude.{Option, None}
 use Rattle.paper.specs.declared.EntryRule.{EntryRule}
 use Rattle.paper.specs.declared.EntryRule.TheVariants.{Whole, Destination}
 use Rattle.paper.specs.Image.{Set}
