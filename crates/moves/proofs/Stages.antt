@@ -76,12 +76,17 @@ last_stage S l ahead o found (Ok u) e = all_passed S l ahead (passes Object S l 
 -- ---- behind the first two rules
 
 module _ (S : Set) (l : List ℕ) (o : Option ℕ) (fits : FirstBroken (λ i. T (entry_fitting l i)) (all_entries l) o) {u : Unit {0}} (e : Ok u ≡ entries_stage Whole o) where
+  -- what stands before the second rule, its part count among it
+  second_behind : {n : ℕ} → length S ≡ n → EntryReady Destination S l n
+  second_behind count = second_ready (first_ready count) o (found_first Whole S l o (by_whole S l o fits)) (none_found Whole S l o u e)
+
   pub whole_ahead : EntriesPassedAhead Destination S l
-  whole_ahead = (second_ready (none_before S l) o (found_first Whole S l o (by_whole S l o fits)) (none_found Whole S l o u e)).passed
+  whole_ahead = (second_behind refl).passed
 
   pub ascend_behind : Ascending l
   ascend_behind = ascending S l (whole_ahead Whole (omega arith))
 
   pub parts_ahead : (n : ℕ) → length S ≡ n → (o' : Option ℕ) → FirstBroken (λ i. entry_part l i < n) (all_entries l) o' → {u' : Unit {0}}
       → Ok u' ≡ entries_stage Destination o' → EntriesPassedAhead Known S l
-  parts_ahead n count o' astray {u'} e' = goes_on Destination S l Known refl whole_ahead o' (by_destination S l n count o' astray) u' e'
+  parts_ahead n count o' astray {u'} e' =
+      let ready = second_behind count in goes_on Destination S l Known refl ready.passed o' (by_destination S l n ready.parts o' astray) u' e'

@@ -17,7 +17,7 @@ use Rattle.demands.proofs.Rows.Faults.{passes_none}
 use Rattle.entities.specs.declared.Repeated.{Repeated}
 use Rattle.entities.specs.LowestCopies.{Entities}
 use Rattle.entities.proofs.Distinct.{distinct_copies, copies_distinct}
-use Rattle.sound.specs.Tests.{tested, Twins}
+use Rattle.sound.specs.Tests.{tested, rule_for, Twins}
 use Rattle.sound.specs.Faults.{fault_place, Tells, FirstFault}
 use Rattle.sound.specs.Stages.{EachOnce}
 use Rattle.sound.proofs.Judging.{clear_passes}
@@ -31,7 +31,7 @@ no_fault (Some f) e = absurd (math.some-ne-none _ e)
 pub twins_clear : {says : Part → Slot → Bool → Type 0} (S : Set) {fault : Option (Part × Slot)} → FirstFault says S fault → Tells says S (tested Twins S) → Passed Copies S → fault ≡ None
 twins_clear S {fault} first tells pass = no_fault fault (first.place (tested Twins S) tells ∙ passes_none (tested Twins S) S (twins_pass S pass))
 
-module _ {b offs starts keys ord tmp ord' tmp' : List ℕ} {n : ℕ} (index : Indexed b offs starts n) (named : Named b starts keys) (ahead : PassedAhead Copies (set_in b)) where
+module _ {b offs starts keys ord tmp ord' tmp' : List ℕ} {n : ℕ} (index : Indexed b offs starts n) (named : Named b starts keys) (ahead : PassedAhead (rule_for Twins) (set_in b)) where
   -- every copy agrees and no name is there twice: rule 10 passes, and the entities are listed
   module _ {count : ℕ} (listed : Entities (set_in b) starts keys ord tmp ord' tmp' n (Ok count)) where
     pub names_listed : {says : Part → Slot → Bool → Type 0} → FirstFault says (set_in b) None → Tells says (set_in b) (tested Twins (set_in b))
