@@ -15,7 +15,7 @@ abbrev pub entries_stage : EntryRule → Option ℕ → Result (Unit {0}) Refusa
 entries_stage rule None = Ok tt
 entries_stage rule (Some i) = Err (refusal (number_of_entry rule) (at_entry i))
 
--- and in the paper's words
+-- the first entry that breaks a rule, as the paper's option
 abbrev pub bad_entry : Option ℕ → math.Option ℕ
 bad_entry None = math.none
 bad_entry (Some i) = math.some i
