@@ -4,8 +4,8 @@
 use paper::{BoxAnswer, CheckAnswer, Home, LookupAnswer, Moved, Point, Refusal, Sound};
 use reasons::Status;
 
-// A word and a number behind it, each in a write of its own: where there is no room for one of them there is rarely room for the last words of the
-// answer either, and those tell.
+// A word and a number behind it, each in a write of its own. Only the last words of an answer tell whether they could be written: of small pieces
+// those that fit use up the room, so that the last words often find none where a piece was lost.
 fn say_number(rt: &HostRuntime, word: &str, number: u64) {
     let _ = print!(rt; "{word}");
     let _ = print!(rt; "{number}");
